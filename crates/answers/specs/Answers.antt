@@ -1,0 +1,177 @@
+-- What each public call gives for every input: number, record, steps, "all are 1", length, and all lent bytes after the call.
+-- "Each refusal gives its number and a record number, steps 0 and a no for "all are 1", and changes no lent byte. A success writes from
+-- byte 0 and leaves the rest."
+-- Assumes nothing.
+use Prim.Native.Nat.{ℕ, zero, suc, _+_, _-_, _*_}
+use mathlib.Core.Bool.{Bool, true, false, cond, not, _&&_}
+use mathlib.Core.List.{List, [], _∷_, _++_, map}
+use mathlib.Core.Option.{Option, none, some, Option·map, orElse}
+use lib.Dec.{eqb, leb, ltb}
+use lib.IntN.{ℤ, pos}
+use lib.ListN.{length, getD, take, drop}
+use Rattle.numbers.specs.Limits.{mostBytes}
+use Rattle.numbers.specs.Whole.{between}
+use Rattle.language.specs.Syntax.{Declarations}
+use Rattle.language.specs.Tables.{Row, treeAt, treeB}
+use Rattle.language.specs.Readings.{Reading, strict, kleene, relational}
+use Rattle.language.specs.Meaning.{Assignment, Setting, valueOf, valueB, calmB}
+use Rattle.language.specs.Steps.{costB}
+use Rattle.rules.specs.Bounds.{variableAt, withinBounds}
+use Rattle.rules.specs.Writing.{Translated, translateRows}
+use Rattle.table.specs.Records.{HD, CN, recordSize, recordBytes}
+use Rattle.table.specs.Kinds.{nodeBytes}
+use Rattle.answers.specs.Sections.{variablesAt, nodesAt, constraintCount, declarations, rows, nodeTrees, constraints}
+use Rattle.answers.specs.Check.{Refusal, refuse, unless, firstFault, checkFault}
+
+-- a call's result
+pub record Answer : Type 0 where
+  pub number : ℕ
+  pub at : ℕ
+  pub steps : ℕ
+  pub length-written : ℕ
+  pub all-true : Bool
+
+-- a result and the lent bytes after the call
+pub record Outcome : Type 0 where
+  pub answer : Answer
+  pub lent : List ℕ
+
+unfoldable pub refused : Refusal → Answer
+refused r = record { number = r .number; at = r .at; steps = 0; length-written = 0; all-true = false }
+
+unfoldable pub done : ℕ → ℕ → Bool → Answer
+done steps written all = record { number = 0; at = 0; steps = steps; length-written = written; all-true = all }
+
+-- "A success writes from byte 0 and leaves the rest."
+unfoldable pub written : List ℕ → List ℕ → List ℕ
+written lent new = new ++ drop (length new) lent
+
+-- "Choice 1 strict, 2 Kleene, 3 relational."; "7: choice not 1 to 3"
+unfoldable pub readingOf : ℕ → Option Reading
+readingOf c = cond (eqb c 1) (some strict) (cond (eqb c 2) (some kleene) (cond (eqb c 3) (some relational) none))
+
+-- ---- check
+
+unfoldable pub check : List ℕ → Answer
+check table = elim (checkFault table) [ none ↦ done 0 0 false | some r ↦ refused r ]
+
+-- ---- evaluate
+
+-- before any slot is bound; a constraint has no free slot, so nothing reads it
+unfoldable pub unset : Setting
+unset s = pos 0
+
+module _ (table : List ℕ) where
+  -- "10: assignment of wrong length, or first value outside its domain: 0; that VR"
+  unfoldable pub assignmentFault : Assignment → Option Refusal
+  assignmentFault α =
+      cond (eqb (length α) (length (declarations table .variables)))
+      (firstFault
+      (λ v. unless 10 (between (variableAt (declarations table) v .low) (variableAt (declarations table) v .high) (valueOf α v)))
+      (variablesAt table) (length (declarations table .variables)))
+      (refuse 10 0)
+
+  -- "The total is the sum over all constraints, shared nodes counted each time."
+  unfoldable pub costs : List ℕ → ℕ
+  costs [] = 0
+  costs (k ∷ ks) = costB (declarations table) (treeB (nodeTrees table) k) + costs ks
+
+  unfoldable pub totalCost : ℕ
+  totalCost = costs (constraints table)
+
+  module _ (ρ : Reading) (α : Assignment) where
+    unfoldable pub valueOfConstraint : ℕ → Option Bool
+    valueOfConstraint k = valueB ρ (declarations table) α (treeB (nodeTrees table) k) unset
+
+    unfoldable pub allCalm : List ℕ → Bool
+    allCalm [] = true
+    allCalm (k ∷ ks) = calmB ρ (declarations table) α (treeB (nodeTrees table) k) unset && allCalm ks
+
+    -- "one byte per constraint (0 false, 1 true, 2 undefined)"
+    unfoldable pub verdict : Option Bool → ℕ
+    verdict (some false) = 0
+    verdict (some true) = 1
+    verdict none = 2
+
+    unfoldable pub verdicts : List ℕ
+    verdicts = map (λ k. verdict (valueOfConstraint k)) (constraints table)
+
+    -- "whether all are 1 (yes where there is none)"
+    unfoldable pub allOne : List ℕ → Bool
+    allOne [] = true
+    allOne (v ∷ vs) = eqb v 1 && allOne vs
+
+    -- "Evaluate: then 10, 9, 11, 8."
+    unfoldable pub evaluationFault : ℕ → ℕ → Option Refusal
+    evaluationFault budget room =
+        orElse (checkFault table)
+        (orElse (assignmentFault α)
+        (orElse (cond (leb (length (constraints table)) room) none (refuse 9 0))
+        (orElse (cond (leb totalCost budget) none (refuse 11 0)) (cond (allCalm (constraints table)) none (refuse 8 0)))))
+
+    unfoldable pub evaluateUnder : ℕ → List ℕ → Outcome
+    evaluateUnder budget lent =
+        elim (evaluationFault budget (length lent)) [
+          | none ↦ record { answer = done totalCost (length verdicts) (allOne verdicts); lent = written lent verdicts }
+          | some r ↦ record { answer = refused r; lent = lent }
+        ]
+
+-- "Order: 7, 1, ..": a choice that is none comes first
+unfoldable pub underChoice : ℕ → List ℕ → (Reading → Outcome) → Outcome
+underChoice choice lent go =
+    elim (readingOf choice) [
+      | none ↦ record { answer = refused (record { number = 7; at = 0 }); lent = lent }
+      | some ρ ↦ go ρ
+    ]
+
+unfoldable pub evaluate : ℕ → List ℕ → Assignment → ℕ → List ℕ → Outcome
+evaluate choice table α budget lent = underChoice choice lent (λ ρ. evaluateUnder table ρ α budget lent)
+
+-- ---- translate
+
+module _ (table : List ℕ) where
+  -- "8: translate: first interval beyond ±2,000,000,000: that node"
+  unfoldable pub boundsFault : Option Refusal
+  boundsFault =
+      firstFault (λ n. unless 8 (withinBounds (declarations table) (treeAt (nodeTrees table) n))) (nodesAt table) (length (rows table))
+
+  module _ (ρ : Reading) where
+    unfoldable pub translated : Translated
+    translated = translateRows ρ (declarations table) (rows table)
+
+    unfoldable pub newNodes : List Row → List ℕ
+    newNodes [] = []
+    newNodes (r ∷ rs) = nodeBytes r ++ newNodes rs
+
+    -- "Each CN becomes P of its node."
+    unfoldable pub newConstraints : List ℕ → List ℕ
+    newConstraints [] = []
+    newConstraints (k ∷ ks) = recordBytes CN 0 (pos (getD (translated .firsts) k 0)) (pos 0) ++ newConstraints ks
+
+    -- how many records the new table has: "VR, SL, AR and EL are copied"
+    unfoldable pub newCount : ℕ
+    newCount = nodesAt table + (length (translated .rows) + length (constraints table))
+
+    unfoldable pub translation : List ℕ
+    translation =
+        recordBytes HD 1 (pos newCount) (pos 0)
+        ++ (take (recordSize * nodesAt table - recordSize) (drop recordSize table)
+        ++ (newNodes (translated .rows) ++ newConstraints (constraints table)))
+
+    -- "9: output longer than the buffer, or a translation beyond 60,000 bytes"
+    unfoldable pub roomFault : ℕ → Option Refusal
+    roomFault room = cond (leb (recordSize * newCount) room && leb (recordSize * newCount) mostBytes) none (refuse 9 0)
+
+    -- "Translate: then 8, 9."
+    unfoldable pub translationFault : ℕ → Option Refusal
+    translationFault room = orElse (checkFault table) (orElse boundsFault (roomFault room))
+
+    unfoldable pub translateUnder : List ℕ → Outcome
+    translateUnder lent =
+        elim (translationFault (length lent)) [
+          | none ↦ record { answer = done 0 (length translation) false; lent = written lent translation }
+          | some r ↦ record { answer = refused r; lent = lent }
+        ]
+
+unfoldable pub translate : ℕ → List ℕ → List ℕ → Outcome
+translate choice table lent = underChoice choice lent (λ ρ. translateUnder table ρ lent)

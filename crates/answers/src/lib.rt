@@ -1,0 +1,1 @@
+// What each public call answers: definitions and laws only.

@@ -1,0 +1,5 @@
+pub mod Syntax
+pub mod Tables
+pub mod Readings
+pub mod Meaning
+pub mod Steps

@@ -1,0 +1,1 @@
+// The language of constraints: definitions and laws only.

@@ -1,0 +1,5 @@
+pub mod Bounds
+pub mod Formulas
+pub mod Rules
+pub mod Soundness
+pub mod Writing

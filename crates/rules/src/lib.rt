@@ -1,0 +1,1 @@
+// The rules of translation and the bounds before it: definitions and laws only.
