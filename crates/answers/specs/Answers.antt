@@ -1,6 +1,4 @@
 -- What each public call gives for every input: number, record, steps, "all are 1", length, and all lent bytes after the call.
--- "Each refusal gives its number and a record number, steps 0 and a no for "all are 1", and changes no lent byte. A success writes from
--- byte 0 and leaves the rest."
 -- Assumes nothing.
 use Prim.Native.Nat.{ℕ, zero, suc, _+_, _-_, _*_}
 use mathlib.Core.Bool.{Bool, true, false, cond, not, _&&_}
@@ -36,15 +34,18 @@ pub record Outcome : Type 0 where
   pub answer : Answer
   pub lent : List ℕ
 
+-- "Each refusal gives its number and a record number, steps 0 and a no for "all are 1""
 unfoldable pub refused : Refusal → Answer
 refused r = record { number = r .number; at = r .at; steps = 0; length-written = 0; all-true = false }
 
 unfoldable pub done : ℕ → ℕ → Bool → Answer
 done steps written all = record { number = 0; at = 0; steps = steps; length-written = written; all-true = all }
 
--- "A success writes from byte 0 and leaves the rest."
-unfoldable pub written : List ℕ → List ℕ → List ℕ
-written lent new = new ++ drop (length new) lent
+-- A call's outcome: its refusal, or else its answer and the bytes that it writes. "Each refusal .. changes no lent byte. A success writes
+-- from byte 0 and leaves the rest."
+unfoldable pub outcome : Option Refusal → Answer → List ℕ → List ℕ → Outcome
+outcome (some r) answer new lent = record { answer = refused r; lent = lent }
+outcome none answer new lent = record { answer = answer; lent = new ++ drop (length new) lent }
 
 -- "Choice 1 strict, 2 Kleene, 3 relational."; "7: choice not 1 to 3"
 unfoldable pub readingOf : ℕ → Option Reading
@@ -110,19 +111,11 @@ module _ (table : List ℕ) where
         (orElse (cond (leb totalCost budget) none (refuse 11 0)) (cond (allCalm (constraints table)) none (refuse 8 0)))))
 
     unfoldable pub evaluateUnder : ℕ → List ℕ → Outcome
-    evaluateUnder budget lent =
-        elim (evaluationFault budget (length lent)) [
-          | none ↦ record { answer = done totalCost (length verdicts) (allOne verdicts); lent = written lent verdicts }
-          | some r ↦ record { answer = refused r; lent = lent }
-        ]
+    evaluateUnder budget lent = outcome (evaluationFault budget (length lent)) (done totalCost (length verdicts) (allOne verdicts)) verdicts lent
 
 -- "Order: 7, 1, ..": a choice that is none comes first
 unfoldable pub underChoice : ℕ → List ℕ → (Reading → Outcome) → Outcome
-underChoice choice lent go =
-    elim (readingOf choice) [
-      | none ↦ record { answer = refused (record { number = 7; at = 0 }); lent = lent }
-      | some ρ ↦ go ρ
-    ]
+underChoice choice lent go = elim (readingOf choice) [ none ↦ outcome (refuse 7 0) (done 0 0 false) [] lent | some ρ ↦ go ρ ]
 
 unfoldable pub evaluate : ℕ → List ℕ → Assignment → ℕ → List ℕ → Outcome
 evaluate choice table α budget lent = underChoice choice lent (λ ρ. evaluateUnder table ρ α budget lent)
@@ -167,11 +160,7 @@ module _ (table : List ℕ) where
     translationFault room = orElse (checkFault table) (orElse boundsFault (roomFault room))
 
     unfoldable pub translateUnder : List ℕ → Outcome
-    translateUnder lent =
-        elim (translationFault (length lent)) [
-          | none ↦ record { answer = done 0 (length translation) false; lent = written lent translation }
-          | some r ↦ record { answer = refused r; lent = lent }
-        ]
+    translateUnder lent = outcome (translationFault (length lent)) (done 0 (length translation) false) translation lent
 
 unfoldable pub translate : ℕ → List ℕ → List ℕ → Outcome
 translate choice table lent = underChoice choice lent (λ ρ. translateUnder table ρ lent)
