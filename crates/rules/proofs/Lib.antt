@@ -1,3 +1,14 @@
+pub mod Adding
 pub mod Claims
 pub mod Companions
+pub mod Demand
+pub mod Every
+pub mod Filling
+pub mod Nodes
+pub mod RulesStand
+pub mod SoundTables
+pub mod Stands
+pub mod Tracked
+pub mod Translation
 pub mod Trials
+pub mod WrittenOut
