@@ -7,7 +7,7 @@ use mathlib.Core.List.{List, [], _∷_, _++_, map}
 use lib.IntN.{ℤ, pos, negsuc}
 use lib.ListN.{replicate}
 use Rattle.table.specs.Records.{Mark, HD, VR, SL, AR, EL, ND, CN, firstLetter, secondLetter, wordBytes, bitsOf}
-use Rattle.answers.specs.Answers.{Answer, Outcome}
+use Rattle.answers.specs.Answers.{Answer}
 use Rattle.answers.proofs.Computed.{checked, evaluated, translated}
 
 -- a record with its aux, and one with aux 0

@@ -2,12 +2,12 @@
 -- Assumes nothing.
 use mathlib.Core.Path.{_≡_, refl}
 use Prim.Native.Nat.{ℕ}
-use mathlib.Core.Bool.{Bool, true, false}
+use mathlib.Core.Bool.{false}
 use mathlib.Core.List.{List, [], _∷_, _++_, map}
 use lib.Dec.{eqb}
 use lib.IntN.{ℤ, pos}
 use lib.ListN.{replicate}
-use Rattle.answers.specs.Answers.{Answer, Outcome}
+use Rattle.answers.specs.Answers.{Outcome}
 use Rattle.answers.proofs.Computed.{evaluated, translated, listed}
 
 -- ---- the tables

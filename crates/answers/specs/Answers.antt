@@ -1,15 +1,14 @@
 -- What each public call gives for every input: number, record, steps, "all are 1", length, and all lent bytes after the call.
 -- Assumes nothing.
-use Prim.Native.Nat.{ℕ, zero, suc, _+_, _-_, _*_}
-use mathlib.Core.Bool.{Bool, true, false, cond, not, _&&_}
+use Prim.Native.Nat.{ℕ, _+_, _-_, _*_}
+use mathlib.Core.Bool.{Bool, true, false, cond, _&&_}
 use mathlib.Core.List.{List, [], _∷_, _++_, map}
-use mathlib.Core.Option.{Option, none, some, Option·map, orElse}
-use lib.Dec.{eqb, leb, ltb}
-use lib.IntN.{ℤ, pos}
+use mathlib.Core.Option.{Option, none, some, orElse}
+use lib.Dec.{eqb, leb}
+use lib.IntN.{pos}
 use lib.ListN.{length, getD, take, drop}
 use Rattle.numbers.specs.Limits.{mostBytes}
 use Rattle.numbers.specs.Whole.{between}
-use Rattle.language.specs.Syntax.{Declarations}
 use Rattle.language.specs.Tables.{Row, treeAt, treeB}
 use Rattle.language.specs.Readings.{Reading, strict, kleene, relational}
 use Rattle.language.specs.Meaning.{Assignment, Setting, valueOf, valueB, calmB}
@@ -18,7 +17,7 @@ use Rattle.rules.specs.Bounds.{variableAt, withinBounds}
 use Rattle.rules.specs.Writing.{Translated, translateRows}
 use Rattle.table.specs.Records.{HD, CN, recordSize, recordBytes}
 use Rattle.table.specs.Kinds.{nodeBytes}
-use Rattle.answers.specs.Sections.{variablesAt, nodesAt, constraintCount, declarations, rows, nodeTrees, constraints}
+use Rattle.answers.specs.Sections.{variablesAt, nodesAt, declarations, rows, nodeTrees, constraints}
 use Rattle.answers.specs.Check.{Refusal, refuse, unless, firstFault, checkFault}
 
 -- a call's result

@@ -1,12 +1,12 @@
 -- The check: for every byte string the number and the record of its refusal, or none.
 -- "Order: 7, 1, then the first faulty record and in it 2 to 6 upward."
 -- Assumes nothing.
-use Prim.Native.Nat.{ℕ, zero, suc, _+_, _-_, _%_}
+use Prim.Native.Nat.{ℕ, zero, suc, _+_, _%_}
 use mathlib.Core.Bool.{Bool, true, false, cond, not, _&&_, _||_}
-use mathlib.Core.List.{List, []}
+use mathlib.Core.List.{List}
 use mathlib.Core.Option.{Option, none, some, Option·map, orElse}
 use lib.Dec.{eqb, leb, ltb}
-use lib.IntN.{ℤ, pos, negsuc, natAbs}
+use lib.IntN.{ℤ, pos, natAbs}
 use lib.ListN.{length, getD}
 use lib.Signed.{leZ, nonNeg}
 use Rattle.numbers.specs.Limits.{mostBytes, mostVariables, mostSlots, mostSlotValues, mostArrays, mostElements, reach}
@@ -14,7 +14,7 @@ use Rattle.numbers.specs.Whole.{eqZ, between}
 use Rattle.language.specs.Syntax.{Sort, boolean, integer}
 use Rattle.language.specs.Tables.{freeIn, treeAt}
 use Rattle.language.specs.Meaning.{count}
-use Rattle.table.specs.Records.{Mark, HD, AR, EL, recordSize, recordCount, marked, kindAt, auxAt, xAt, yAt}
+use Rattle.table.specs.Records.{HD, AR, EL, recordSize, recordCount, marked, kindAt, auxAt, xAt, yAt}
 use Rattle.table.specs.Kinds.{Field, unused, anyNumber, truthValue, variableNumber, slotNumber, arrayNumber, nodeNumber, Kind, kindOf}
 use Rattle.answers.specs.Sections.{sortOfKind, variablesAt, slotsAt, arraysAt, nodesAt, constraintsAt, restAt, variableCount, slotCount, arrayRecords, nodeCount, constraintCount, behindArray, slotOf, nodeTrees}
 

@@ -2,16 +2,15 @@
 -- Total on every byte string; what it says of a table that the check refuses is never used.
 -- Assumes nothing.
 use Prim.Native.Nat.{ℕ, zero, suc, _+_, _-_}
-use mathlib.Core.Bool.{Bool, true, false, cond}
+use mathlib.Core.Bool.{true, false, cond}
 use mathlib.Core.List.{List, [], _∷_, _++_, map}
-use mathlib.Core.Option.{Option, none, some}
+use mathlib.Core.Option.{none, some}
 use lib.Dec.{eqb}
-use lib.IntN.{ℤ, pos, natAbs}
-use lib.ListN.{length}
+use lib.IntN.{natAbs}
 use Rattle.language.specs.Syntax.{Sort, boolean, integer, Variable, Slot, Element, fixed, ofVariable, Array, Declarations}
 use Rattle.language.specs.Tables.{Row, truthRow, Tree, trees}
 use Rattle.table.specs.Records.{Mark, VR, SL, AR, ND, CN, marked, recordCount, kindAt, xAt, yAt}
-use Rattle.table.specs.Kinds.{Kind, kindOf}
+use Rattle.table.specs.Kinds.{kindOf}
 
 -- f 0, f 1, .., f (n − 1)
 unfoldable pub listed : {A : Type 0} → ℕ → (ℕ → A) → List A

@@ -12,7 +12,7 @@ use mathlib.Core.List.{List, [], _∷_, _++_, map}
 use mathlib.Core.Option.{Option, none, some, bind}
 use lib.IntN.{ℤ, pos, negsuc}
 use Rattle.numbers.specs.Whole as Whole
-use Rattle.language.specs.Syntax.{plus, minus, times, least, most, quot, rem, Connective, conj, disj, implies, iff, Comparison, equal, unequal, atMost, below, Quantifier, exists, forall, IExp, constant, variable, slot, arith, divide, negate, boolToInt, lookup, sum, BExp, truth, variableB, lookupB, connect, negation, compare, quantify, boolean, integer, Slot, Array, fixed, ofVariable, Declarations}
+use Rattle.language.specs.Syntax.{plus, minus, times, least, quot, Connective, conj, disj, implies, iff, Comparison, equal, unequal, atMost, below, Quantifier, exists, forall, IExp, constant, slot, arith, divide, boolToInt, lookup, sum, BExp, truth, lookupB, connect, negation, compare, quantify, boolean, integer, fixed, ofVariable, Declarations}
 use Rattle.language.specs.Readings as Readings
 use Rattle.language.specs.Readings.{Reading, strict, kleene, relational}
 use Rattle.language.specs.Meaning as Meaning

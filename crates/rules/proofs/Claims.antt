@@ -1,12 +1,10 @@
 -- What is shown of trees: the claims that the lemmas of the rules establish and that the theorem about tables puts together.
 -- Assumes nothing.
 use mathlib.Core.Path.{_≡_}
-use Prim.Native.Nat.{ℕ, _<_}
 use mathlib.Core.Bool.{Bool, true, false}
 use mathlib.Core.Option.{Option, none, some}
 use lib.Dec.{T}
 use lib.IntN.{ℤ}
-use lib.ListN.{length}
 use Rattle.numbers.specs.Whole.{withinLimit}
 use Rattle.language.specs.Syntax.{boolean, integer, IExp, constant, variable, slot, arith, divide, negate, boolToInt, lookup, sum, iref, BExp, truth, variableB, lookupB, connect, negation, compare, quantify, bref, Declarations}
 use Rattle.language.specs.Readings.{Reading}

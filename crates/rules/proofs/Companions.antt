@@ -1,9 +1,8 @@
 -- The companions of a tree: the rules of document 01 followed down to the leaves, with the operands' companions in place of references.
 -- Assumes nothing.
 use Prim.Native.Nat.{ℕ}
-use mathlib.Core.Bool.{Bool, true}
-use lib.IntN.{ℤ}
-use Rattle.language.specs.Syntax.{forall, IExp, constant, variable, slot, arith, divide, negate, boolToInt, lookup, sum, iref, BExp, truth, variableB, lookupB, connect, negation, compare, quantify, bref, Array, Declarations}
+use mathlib.Core.Bool.{true}
+use Rattle.language.specs.Syntax.{forall, IExp, constant, variable, slot, arith, divide, negate, boolToInt, lookup, sum, iref, BExp, truth, variableB, lookupB, connect, negation, compare, quantify, bref, Declarations}
 use Rattle.language.specs.Readings.{Reading}
 use Rattle.language.specs.Meaning.{arrayAt}
 use Rattle.rules.specs.Formulas.{_and_, _or_, divideV, divideD, inside, clamped, refuted, connectP, connectN, quantifyP, quantifyN}

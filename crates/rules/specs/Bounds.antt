@@ -7,7 +7,7 @@ use lib.IntN.{ℤ, pos, negℤ, _+ℤ_, _-ℤ_, _*ℤ_, natAbs}
 use lib.ListN.{getD}
 use Rattle.numbers.specs.Whole as Whole
 use Rattle.numbers.specs.Whole.{withinLimit}
-use Rattle.language.specs.Syntax.{Arithmetic, plus, minus, times, least, most, Division, quot, rem, IExp, constant, variable, slot, arith, divide, negate, boolToInt, lookup, sum, iref, integer, Variable, Slot, Element, fixed, ofVariable, Array, Declarations}
+use Rattle.language.specs.Syntax.{Arithmetic, plus, minus, times, least, most, Division, quot, rem, IExp, constant, variable, slot, arith, divide, negate, boolToInt, lookup, sum, iref, integer, Variable, Slot, Element, fixed, ofVariable, Declarations}
 use Rattle.language.specs.Tables.{Tree, whole, bool}
 use Rattle.language.specs.Meaning.{slotAt, arrayAt, count}
 

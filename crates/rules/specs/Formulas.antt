@@ -2,9 +2,8 @@
 -- operand's. What `R` is stays open: node numbers where a table is written, nothing where trees are compared.
 -- Assumes nothing.
 use Prim.Native.Nat.{ℕ}
-use mathlib.Core.Bool.{Bool, true, false}
 use lib.IntN.{ℤ, pos}
-use Rattle.language.specs.Syntax.{plus, least, most, Division, Connective, conj, disj, implies, iff, Comparison, equal, unequal, atMost, Quantifier, exists, forall, IExp, constant, arith, divide, boolToInt, lookup, BExp, truth, lookupB, connect, negation, compare, quantify}
+use Rattle.language.specs.Syntax.{plus, least, most, Division, Connective, conj, disj, implies, iff, equal, unequal, atMost, Quantifier, exists, forall, IExp, constant, arith, divide, boolToInt, BExp, connect, negation, compare, quantify}
 use Rattle.language.specs.Readings.{Reading, strict, kleene, relational}
 
 infixl 35 _and_

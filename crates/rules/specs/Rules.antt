@@ -1,10 +1,10 @@
 -- The rules of translation, node by node.
 -- Assumes nothing.
 use Prim.Native.Nat.{ℕ}
-use mathlib.Core.Bool.{Bool, true, false}
+use mathlib.Core.Bool.{true}
 use lib.IntN.{ℤ, pos, _+ℤ_, predℤ}
 use lib.ListN.{length}
-use Rattle.language.specs.Syntax.{Quantifier, forall, IExp, constant, variable, slot, arith, negate, boolToInt, lookup, sum, BExp, truth, variableB, lookupB, negation, compare, quantify, Array, Declarations}
+use Rattle.language.specs.Syntax.{forall, IExp, constant, variable, slot, arith, negate, boolToInt, lookup, sum, BExp, truth, variableB, lookupB, negation, compare, quantify, Array, Declarations}
 use Rattle.language.specs.Readings.{Reading}
 use Rattle.language.specs.Tables.{Row, constantRow, variableRow, slotRow, arithRow, divideRow, negateRow, boolToIntRow, lookupRow, sumRow, truthRow, variableBRow, lookupBRow, connectRow, negationRow, compareRow, quantifyRow}
 use Rattle.language.specs.Meaning.{arrayAt}

@@ -3,14 +3,14 @@
 -- Assumes nothing.
 use mathlib.Core.Path.{_≡_}
 use Prim.Native.Nat.{ℕ, _≤_, _<_}
-use mathlib.Core.Bool.{Bool, true}
+use mathlib.Core.Bool.{true}
 use mathlib.Core.List.{List, [], _∷_, _++_}
 use lib.Dec.{T}
 use lib.IntN.{ℤ, natAbs}
 use lib.ListN.{length, getD}
 use lib.Signed.{_≤ℤ_}
 use Rattle.numbers.specs.Limits.{mostElements, reach}
-use Rattle.language.specs.Syntax.{Sort, boolean, integer, Variable, Slot, Element, fixed, ofVariable, Array, Declarations}
+use Rattle.language.specs.Syntax.{Sort, boolean, integer, Element, fixed, ofVariable, Array, Declarations}
 use Rattle.language.specs.Tables.{Row, constantRow, variableRow, slotRow, arithRow, divideRow, negateRow, boolToIntRow, lookupRow, sumRow, truthRow, variableBRow, lookupBRow, connectRow, negationRow, compareRow, quantifyRow, Tree}
 use Rattle.language.specs.Meaning.{Assignment, Setting, valueOf, slotAt, arrayAt}
 use Rattle.rules.specs.Bounds.{Interval, variableAt, variableInterval, slotInterval, withinBounds}

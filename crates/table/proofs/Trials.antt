@@ -2,17 +2,17 @@
 -- Assumes nothing.
 use mathlib.Core.Path.{_≡_, refl}
 use Prim.Native.Nat.{ℕ}
-use mathlib.Core.Bool.{Bool, true, false}
+use mathlib.Core.Bool.{true, false}
 use mathlib.Core.List.{List, [], _∷_, _++_, map}
-use mathlib.Core.Option.{Option, none, some, Option·map}
+use mathlib.Core.Option.{none, some, Option·map}
 use lib.IntN.{ℤ, pos, negsuc}
 use Rattle.numbers.specs.Whole.{eqZ}
 use Rattle.language.specs.Syntax.{Sort, boolean, integer}
 use Rattle.language.specs.Meaning.{isOne, number}
 use Rattle.table.specs.Records as Records
-use Rattle.table.specs.Records.{Mark, HD, VR, SL, AR, EL, ND, CN, marked, kindAt, auxAt, xAt, yAt, recordBytes, recordCount}
+use Rattle.table.specs.Records.{Mark, HD, VR, SL, AR, EL, ND, CN, marked, kindAt, auxAt, xAt, yAt, recordBytes}
 use Rattle.table.specs.Kinds as Kinds
-use Rattle.table.specs.Kinds.{Field, unused, anyNumber, truthValue, variableNumber, slotNumber, arrayNumber, nodeNumber, Kind, kindOf, nodeBytes}
+use Rattle.table.specs.Kinds.{Field, unused, anyNumber, truthValue, variableNumber, slotNumber, arrayNumber, nodeNumber, kindOf, nodeBytes}
 
 -- ---- records on disk
 
