@@ -1,2 +1,5 @@
+pub mod Agreement
+pub mod Finite
+pub mod Ranges
 pub mod Trees
 pub mod Trials

@@ -11,6 +11,7 @@ use Rattle.language.specs.Readings.{Reading}
 use Rattle.language.specs.Tables.{Tree, whole, bool}
 use Rattle.language.specs.Meaning.{Assignment, Setting, valueI, valueB}
 use Rattle.rules.specs.Bounds.{interval, withinBounds}
+use Rattle.rules.specs.Demand.{defined, isTrue, isFalse}
 use Rattle.rules.specs.Soundness.{Within, Fits, IsVariable, IsArray, IsSlot}
 use Rattle.rules.proofs.Companions.{Vᵗ, Dᵗ, Pᵗ, Nᵗ}
 
@@ -85,19 +86,6 @@ module _ (Γ : Declarations) (α : Assignment) where
   TotalTree (bool e) = TotalB e
 
 -- ---- what the companions of a tree mean
-
-unfoldable pub defined : {A : Type 0} → Option A → Bool
-defined (some a) = true
-defined none = false
-
-unfoldable pub isTrue : Option Bool → Bool
-isTrue (some b) = b
-isTrue none = false
-
-unfoldable pub isFalse : Option Bool → Bool
-isFalse (some true) = false
-isFalse (some false) = true
-isFalse none = false
 
 -- V has a value under ρ′ and it lies in the node's interval; D is true exactly where the node is defined under ρ, and then V is its value.
 pub record MeansI (ρ ρ′ : Reading) (Γ : Declarations) (α : Assignment) (σ : Setting) (e : IExp ⊥) : Type 0 where

@@ -9,6 +9,7 @@ use Rattle.language.specs.Syntax.{boolean, integer, Declarations}
 use Rattle.language.specs.Readings.{Reading}
 use Rattle.language.specs.Tables.{Row, asI, asB, treeI, treeB, treesAfter, trees}
 use Rattle.language.specs.Meaning.{Assignment}
+use Rattle.rules.specs.Demand.{firstOf, secondOf, newRows}
 use Rattle.rules.specs.Soundness.{All, IsNode, WellFormed}
 use Rattle.rules.specs.Writing.{translateRows}
 use Rattle.rules.proofs.Companions.{Vᵗ, Dᵗ, Pᵗ, Nᵗ}
@@ -16,18 +17,6 @@ use Rattle.rules.proofs.Claims.{TotalTree}
 use Rattle.rules.proofs.Nodes.{HasTree→IsNode}
 use Rattle.rules.proofs.RulesStand.{V-place, D-place, P-place, N-place}
 use Rattle.rules.proofs.Tracked.{CompanionsTotal, Tracked, translateRows-tracked}
-
--- the places that the translation keeps for V or P of a node, and for D or N
-module _ (ρ : Reading) (Γ : Declarations) (rows : List Row) where
-  abbrev pub firstOf : ℕ → ℕ
-  firstOf k = getD (translateRows ρ Γ rows .firsts) k 0
-
-  abbrev pub secondOf : ℕ → ℕ
-  secondOf k = getD (translateRows ρ Γ rows .seconds) k 0
-
-  -- the new table's rows
-  abbrev pub newRows : List Row
-  newRows = translateRows ρ Γ rows .rows
 
 -- V and D of an integer node
 pub record NumericCompanions (ρ : Reading) (Γ : Declarations) (rows : List Row) (k : ℕ) : Type 0 where

@@ -1,4 +1,5 @@
 pub mod Bounds
+pub mod Demand
 pub mod Formulas
 pub mod Rules
 pub mod Soundness
