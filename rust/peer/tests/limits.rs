@@ -1,0 +1,547 @@
+//! Both sides of every limit: sizes, values, intervals, steps and depth.
+
+mod common;
+
+use barfigol_peer::{evaluate, translate};
+use barfigol_tables::{cost, limits, Element, Node, Table, Type};
+use common::{checked, refused, translated, verdict, verdicts, CHOICES, MOST_BYTES, STRICT};
+
+/// The largest value allowed.
+const LIMIT: i32 = 2_000_000_000;
+
+#[test]
+fn counts_of_records() {
+    assert_eq!(checked(&limits::variables(256).bytes()), (0, 0));
+    assert_eq!(checked(&limits::variables(257).bytes()), (3, 257));
+    assert_eq!(checked(&limits::slots(16).bytes()), (0, 0));
+    assert_eq!(checked(&limits::slots(17).bytes()), (3, 17));
+    assert_eq!(checked(&limits::arrays(64).bytes()), (0, 0));
+    assert_eq!(checked(&limits::arrays(65).bytes()), (3, 129));
+    assert_eq!(checked(&limits::elements(1).bytes()), (0, 0));
+    assert_eq!(checked(&limits::elements(1_024).bytes()), (0, 0));
+    assert_eq!(checked(&limits::elements(0).bytes()), (3, 1));
+    assert_eq!(checked(&limits::elements(1_025).bytes()), (3, 1));
+    assert_eq!(checked(&limits::slot_values(10_000).bytes()), (0, 0));
+    assert_eq!(checked(&limits::slot_values(10_001).bytes()), (3, 1));
+}
+
+#[test]
+fn full_declarations_are_used() {
+    for choice in CHOICES {
+        assert_eq!(verdict(choice, &limits::elements(1_024)), 1);
+        assert_eq!(verdict(choice, &limits::slot_values(10_000)), 1);
+        assert_eq!(verdict(choice, &limits::slots(16)), 1);
+        assert_eq!(verdict(choice, &limits::arrays(64)), 1);
+        let table = limits::variables(256).bytes();
+        assert_eq!(verdicts(choice, &table, &[1; 256]), Ok(vec![1]));
+        let short = verdicts(choice, &table, &[1; 255]);
+        assert_eq!(short, Err(refused(10, 0)));
+    }
+}
+
+#[test]
+fn the_last_of_each_section_can_be_named() {
+    let mut table = Table::new();
+    for number in 0..256 {
+        table = table.variable(number, number);
+    }
+    for number in 0..16 {
+        table = table.slot(number, number);
+    }
+    for number in 0..64 {
+        table = table.array(Type::Integer, 0, &[Element::Variable(number + 192)]);
+    }
+    let variable = table.push(Node::variable(255));
+    let slot = table.push(Node::slot(15));
+    let zero = table.push(Node::constant(0));
+    let element = table.push(Node::lookup(63, zero));
+    let same = table.push(Node::equal(variable, element));
+    let fifteen = table.push(Node::constant(15));
+    let is_fifteen = table.push(Node::equal(slot, fifteen));
+    let both = table.push(Node::and(same, is_fifteen));
+    let node = table.push(Node::forall(15, both));
+    let bytes = table.constraint(node).bytes();
+    let values: Vec<i32> = (0..256).collect();
+    for choice in CHOICES {
+        assert_eq!(verdicts(choice, &bytes, &values), Ok(vec![1]));
+        let out = translated(choice, &bytes).expect("a table within bounds");
+        assert_eq!(verdicts(choice, &out, &values), Ok(vec![1]));
+    }
+}
+
+#[test]
+fn lengths_of_tables() {
+    let longest = limits::records(5_000).bytes();
+    assert_eq!(longest.len(), 60_000);
+    assert_eq!(checked(&longest), (0, 0));
+    assert_eq!(verdicts(STRICT, &longest, &[]), Ok(vec![1]));
+    let longer = limits::records(5_001).bytes();
+    assert_eq!(longer.len(), 60_012);
+    assert_eq!(checked(&longer), (1, 0));
+}
+
+#[test]
+fn many_constraints() {
+    let start = Table::new().node(Node::truth(1));
+    let table = (0..4_998).fold(start, |table, _| table.constraint(0));
+    let bytes = table.bytes();
+    assert_eq!(bytes.len(), 60_000);
+    let mut room = vec![9; 4_999];
+    let answer = evaluate(STRICT, &bytes, &[], 4_998, &mut room);
+    assert_eq!((answer.number, answer.steps), (0, 4_998));
+    assert_eq!((answer.length, answer.all_true), (4_998, true));
+    assert!(room[..4_998].iter().all(|&verdict| verdict == 1));
+    assert_eq!(room[4_998], 9);
+    let answer = evaluate(STRICT, &bytes, &[], 4_997, &mut room);
+    assert_eq!(answer, refused(11, 0));
+}
+
+#[test]
+fn translations_beyond_the_longest_table() {
+    // A truth value becomes two nodes, so 2,499 of them and a constraint make
+    // exactly 5,000 records.
+    let fits = limits::records(2_501);
+    let too_long = limits::records(2_502);
+    for choice in CHOICES {
+        let mut out = vec![9; MOST_BYTES + 1_000];
+        let answer = translate(choice, &fits.bytes(), &mut out);
+        assert_eq!((answer.number, answer.length), (0, 60_000));
+        assert!(out[MOST_BYTES..].iter().all(|&byte| byte == 9));
+        assert_eq!(checked(&out[..MOST_BYTES]), (0, 0));
+        let mut out = vec![9; MOST_BYTES + 1_000];
+        let answer = translate(choice, &too_long.bytes(), &mut out);
+        assert_eq!(answer, refused(9, 0));
+        assert!(out.iter().all(|&byte| byte == 9));
+    }
+}
+
+#[test]
+fn constants() {
+    for choice in CHOICES {
+        for value in [LIMIT, -LIMIT] {
+            let table = limits::constant(value).bytes();
+            assert!(translated(choice, &table).is_ok());
+            assert_eq!(verdicts(choice, &table, &[]), Ok(vec![1]));
+        }
+        for value in [LIMIT + 1, -LIMIT - 1, i32::MAX, i32::MIN] {
+            let table = limits::constant(value).bytes();
+            assert_eq!(translated(choice, &table), Err(refused(8, 1)));
+            assert_eq!(verdicts(choice, &table, &[]), Err(refused(8, 0)));
+        }
+    }
+}
+
+/// Evaluates a table without variables under each reading and says whether
+/// all of them refuse it with 8, or none.
+fn meets_a_value_beyond(table: &Table) -> bool {
+    let beyond = CHOICES.map(|choice| match verdicts(choice, &table.bytes(), &[]) {
+        Ok(_) => false,
+        Err(answer) => {
+            assert_eq!(answer, refused(8, 0));
+            true
+        }
+    });
+    assert!(beyond == [true; 3] || beyond == [false; 3]);
+    beyond[0]
+}
+
+/// Whether `value = value` meets a value beyond the limit.
+fn is_beyond(mut table: Table, value: i32) -> bool {
+    let node = table.push(Node::equal(value, value));
+    meets_a_value_beyond(&table.constraint(node))
+}
+
+#[test]
+fn values_met_by_operations() {
+    let operations: [(Node, i32, i32, bool); 12] = [
+        (Node::add(0, 1), LIMIT, 0, false),
+        (Node::add(0, 1), LIMIT, 1, true),
+        (Node::subtract(0, 1), -LIMIT, 0, false),
+        (Node::subtract(0, 1), -LIMIT, 1, true),
+        (Node::multiply(0, 1), LIMIT, -1, false),
+        (Node::multiply(0, 1), 44_722, 44_722, true),
+        (Node::multiply(0, 1), LIMIT, LIMIT, true),
+        (Node::multiply(0, 1), LIMIT, -LIMIT, true),
+        (Node::div(0, 1), -LIMIT, -1, false),
+        (Node::modulo(0, 1), -1, LIMIT, false),
+        (Node::negate(0), -LIMIT, 0, false),
+        (Node::max(0, 1), LIMIT, -LIMIT, false),
+    ];
+    for (node, a, b, expected) in operations {
+        let table = Table::new()
+            .node(Node::constant(a))
+            .node(Node::constant(b))
+            .node(node);
+        assert_eq!(is_beyond(table, 2), expected, "{node:?} of {a} and {b}");
+    }
+}
+
+#[test]
+fn a_value_beyond_is_met_below_small_ones() {
+    // 2,000,000,001 div 2 is small, but its operand is met.
+    let table = Table::new()
+        .node(Node::constant(LIMIT + 1))
+        .node(Node::constant(2))
+        .node(Node::div(0, 1));
+    assert!(is_beyond(table, 2));
+    // i32::MIN div −1, and its remainder.
+    for operation in [Node::div(0, 1), Node::modulo(0, 1)] {
+        let table = Table::new()
+            .node(Node::constant(i32::MIN))
+            .node(Node::constant(-1))
+            .node(operation);
+        assert!(is_beyond(table, 2));
+    }
+}
+
+#[test]
+fn every_operand_is_met() {
+    // true ∨ e, false ∧ e, e undefined on one side: e's values are met.
+    let start = Table::new()
+        .node(Node::constant(LIMIT + 1))
+        .node(Node::equal(0, 0))
+        .node(Node::truth(1))
+        .node(Node::truth(0))
+        .node(Node::constant(0))
+        .node(Node::div(4, 4));
+    let walked = [
+        Node::or(2, 1),
+        Node::and(3, 1),
+        Node::implies(3, 1),
+        Node::equal(5, 0),
+        Node::equal(0, 5),
+    ];
+    for node in walked {
+        let table = start.clone().node(node).constraint(6);
+        assert!(meets_a_value_beyond(&table), "{node:?}");
+    }
+    let undefined = [Node::add(5, 0), Node::div(0, 4), Node::lookup(0, 0)];
+    for node in undefined {
+        let table = start.clone().constants(0, &[1]).node(node);
+        assert!(is_beyond(table, 6), "{node:?}");
+    }
+}
+
+#[test]
+fn nodes_that_are_not_met() {
+    // No constraint reaches the constant.
+    let table = limits::constant(LIMIT + 1).node(Node::truth(1));
+    let table = Table {
+        constraints: vec![2],
+        ..table
+    };
+    assert!(!meets_a_value_beyond(&table));
+    // The range is empty.
+    for binder in [Node::exists(0, 1), Node::forall(0, 1)] {
+        let table = Table::new()
+            .slot(1, 0)
+            .node(Node::constant(LIMIT + 1))
+            .node(Node::equal(0, 0))
+            .node(binder)
+            .constraint(2);
+        assert!(!meets_a_value_beyond(&table));
+    }
+    let table = Table::new()
+        .slot(1, 0)
+        .node(Node::constant(LIMIT + 1))
+        .node(Node::sum(0, 0));
+    assert!(!is_beyond(table, 1));
+}
+
+#[test]
+fn elements_count_only_when_looked_up() {
+    for (index, expected) in [(0, false), (1, true), (2, false), (3, false)] {
+        let table = Table::new()
+            .constants(0, &[7, LIMIT + 1, -LIMIT])
+            .node(Node::constant(index))
+            .node(Node::lookup(0, 0));
+        assert_eq!(is_beyond(table, 1), expected, "index {index}");
+    }
+}
+
+#[test]
+fn variables_beyond_the_limit() {
+    let bytes = Table::new()
+        .variable(LIMIT, i32::MAX)
+        .node(Node::variable(0))
+        .node(Node::equal(0, 0))
+        .constraint(1)
+        .bytes();
+    for choice in CHOICES {
+        assert_eq!(verdicts(choice, &bytes, &[LIMIT]), Ok(vec![1]));
+        let above = verdicts(choice, &bytes, &[LIMIT + 1]);
+        assert_eq!(above, Err(refused(8, 0)));
+        assert_eq!(translated(choice, &bytes), Err(refused(8, 2)));
+    }
+    // A variable that no node names is no fault.
+    let unnamed = Table::new().variable(i32::MIN, i32::MAX).bytes();
+    assert!(translated(STRICT, &unnamed).is_ok());
+    assert_eq!(verdicts(STRICT, &unnamed, &[i32::MIN]), Ok(vec![]));
+}
+
+#[test]
+fn partial_sums_do_not_count() {
+    // Two thousand million twice, then minus two thousand million twice.
+    let sum_of = |elements: &[i32]| {
+        Table::new()
+            .slot(0, elements.len() as i32 - 1)
+            .constants(0, elements)
+            .node(Node::slot(0))
+            .node(Node::lookup(0, 0))
+            .node(Node::sum(0, 1))
+    };
+    assert!(!is_beyond(sum_of(&[LIMIT, LIMIT, -LIMIT, -LIMIT]), 2));
+    assert!(!is_beyond(sum_of(&[LIMIT, LIMIT, -LIMIT]), 2));
+    assert!(is_beyond(sum_of(&[LIMIT, LIMIT]), 2));
+    assert!(is_beyond(sum_of(&[LIMIT, 1, LIMIT + 1]), 2));
+}
+
+#[test]
+fn nothing_overflows_after_a_value_beyond() {
+    // Squares of squares, sums of them, and a sum of 10,000 values.
+    let mut table = Table::new().slot(1, 10).slot(1, 10_000);
+    let mut value = table.push(Node::constant(i32::MIN));
+    for operation in [Node::multiply, Node::add, Node::multiply, Node::subtract] {
+        let sum = table.push(Node::sum(0, value));
+        let negated = table.push(Node::negate(sum));
+        value = table.push(operation(negated, sum));
+    }
+    let large = table.push(Node::constant(i32::MAX));
+    let sum = table.push(Node::sum(1, large));
+    let square = table.push(Node::multiply(sum, sum));
+    let quotient = table.push(Node::div(square, value));
+    let remainder = table.push(Node::modulo(quotient, sum));
+    assert!(is_beyond(table, remainder));
+}
+
+/// Translates a table and gives the node that is refused with 8, if any.
+fn node_beyond(table: &Table) -> Option<u32> {
+    let results = CHOICES.map(|choice| translated(choice, &table.bytes()).err());
+    assert!(results.iter().all(|&result| result == results[0]));
+    results[0].map(|answer| {
+        let node = answer.record - table.first_node_record() as u32;
+        assert_eq!(answer, refused(8, answer.record));
+        node
+    })
+}
+
+/// Says that a node's interval has an end of this magnitude and no larger one.
+fn assert_magnitude(table: &Table, node: i32, magnitude: i32) {
+    let times = |factor: i32| {
+        let mut table = table.clone();
+        let factor = table.push(Node::constant(factor));
+        let product = table.push(Node::multiply(node, factor));
+        (table, product)
+    };
+    let most = LIMIT / magnitude;
+    let (within, _) = times(most);
+    assert_eq!(node_beyond(&within), None, "{table:?}");
+    let (beyond, product) = times(most + 1);
+    assert_eq!(node_beyond(&beyond), Some(product as u32), "{table:?}");
+}
+
+#[test]
+fn intervals_of_binary_operations() {
+    // Domains of two variables, the operation, the largest magnitude.
+    let cases = [
+        ((-3, 5), (-7, 2), Node::add(0, 1), 10),
+        ((-3, 5), (-7, 8), Node::add(0, 1), 13),
+        ((-3, 5), (-7, 2), Node::subtract(0, 1), 12),
+        ((-3, 5), (0, 20), Node::subtract(0, 1), 23),
+        ((-3, 5), (-7, 2), Node::multiply(0, 1), 35),
+        ((-9, 5), (-7, 2), Node::multiply(0, 1), 63),
+        ((-9, 5), (-1, 8), Node::multiply(0, 1), 72),
+        ((2, 3), (4, 5), Node::multiply(0, 1), 15),
+        ((-3, 10), (4, 5), Node::div(0, 1), 10),
+        ((-11, 10), (4, 5), Node::div(0, 1), 11),
+        ((-3, 10), (-5, 3), Node::modulo(0, 1), 4),
+        ((-3, 10), (-5, 8), Node::modulo(0, 1), 7),
+        ((0, 5), (3, 4), Node::min(0, 1), 4),
+        ((3, 4), (0, 5), Node::min(0, 1), 4),
+        ((-5, 0), (-4, -3), Node::min(0, 1), 5),
+        ((0, 5), (3, 4), Node::max(0, 1), 5),
+        ((-5, 0), (-4, -3), Node::max(0, 1), 4),
+        ((-4, -3), (-5, 0), Node::max(0, 1), 4),
+        ((-9, 5), (-7, 2), Node::negate(0), 9),
+        ((-3, 5), (-7, 2), Node::negate(0), 5),
+    ];
+    for (a, b, node, magnitude) in cases {
+        let table = Table::new()
+            .variable(a.0, a.1)
+            .variable(b.0, b.1)
+            .node(Node::variable(0))
+            .node(Node::variable(1))
+            .node(node);
+        assert_magnitude(&table, 2, magnitude);
+    }
+}
+
+#[test]
+fn signs_of_intervals() {
+    // mod yields 0 and more, div both signs, negate turns the ends round: the
+    // sum with a constant shows which end is where.
+    let cases = [
+        (Node::modulo(0, 1), 0, 4),
+        (Node::div(0, 1), -10, 10),
+        (Node::negate(0), -10, 3),
+        (Node::subtract(0, 1), -6, 15),
+        (Node::bool_to_int(2), 0, 1),
+    ];
+    for (node, low, high) in cases {
+        let start = Table::new()
+            .variable(-3, 10)
+            .variable(-5, 3)
+            .node(Node::variable(0))
+            .node(Node::variable(1))
+            .node(Node::below(0, 1))
+            .node(node);
+        let with = |constant: i32| {
+            let table = start.clone().node(Node::constant(constant));
+            node_beyond(&table.node(Node::add(3, 4)))
+        };
+        // An end at 0 leaves no room: the constant itself is beyond.
+        let refused_node = |end: i32| Some(if end == 0 { 4 } else { 5 });
+        assert_eq!(with(LIMIT - high), None, "{node:?}");
+        assert_eq!(with(LIMIT - high + 1), refused_node(high), "{node:?}");
+        assert_eq!(with(-LIMIT - low), None, "{node:?}");
+        assert_eq!(with(-LIMIT - low - 1), refused_node(low), "{node:?}");
+    }
+}
+
+#[test]
+fn intervals_of_the_rest() {
+    // mod by a divisor that is only 0 yields 0..0.
+    let table = Table::new()
+        .node(Node::constant(5))
+        .node(Node::constant(0))
+        .node(Node::modulo(0, 1))
+        .node(Node::constant(LIMIT))
+        .node(Node::add(2, 3));
+    assert_eq!(node_beyond(&table), None);
+    // A lookup has the hull of its elements, variables by domain.
+    let elements = [Element::Constant(3), Element::Variable(0)];
+    let table = Table::new()
+        .variable(-4, 1)
+        .array(Type::Integer, 0, &elements)
+        .node(Node::constant(9))
+        .node(Node::lookup(0, 0));
+    assert_magnitude(&table, 1, 4);
+    // A slot has its range, and its first value if the range is empty.
+    let table = Table::new().slot(-3, 2).node(Node::slot(0));
+    assert_magnitude(&table, 0, 3);
+    let table = Table::new().slot(5, -50).node(Node::slot(0));
+    assert_magnitude(&table, 0, 5);
+    // A sum has the body's ends times the number of values.
+    let table = Table::new()
+        .slot(1, 4)
+        .variable(-5, 2)
+        .node(Node::variable(0))
+        .node(Node::sum(0, 0));
+    assert_magnitude(&table, 1, 20);
+}
+
+#[test]
+fn intervals_of_sums_at_the_limit() {
+    let sum = |count: i32, value: i32| {
+        Table::new()
+            .slot(1, count)
+            .node(Node::constant(value))
+            .node(Node::sum(0, 0))
+    };
+    assert_eq!(node_beyond(&sum(10_000, 200_000)), None);
+    assert_eq!(node_beyond(&sum(10_000, 200_001)), Some(1));
+    assert_eq!(node_beyond(&sum(10_000, -200_000)), None);
+    assert_eq!(node_beyond(&sum(10_000, -200_001)), Some(1));
+    assert_eq!(node_beyond(&sum(10_000, LIMIT)), Some(1));
+    assert_eq!(node_beyond(&sum(0, LIMIT)), None);
+    assert_eq!(node_beyond(&sum(-5, LIMIT)), None);
+}
+
+#[test]
+fn the_first_interval_beyond_is_reported() {
+    // Not the constraint's node, not the last, reached or not.
+    let table = Table::new()
+        .constants(0, &[i32::MAX])
+        .node(Node::truth(1))
+        .node(Node::constant(3))
+        .node(Node::lookup(0, 1))
+        .node(Node::constant(i32::MIN))
+        .constraint(0);
+    assert_eq!(node_beyond(&table), Some(2));
+    let array_alone = Table::new().constants(0, &[i32::MAX, i32::MIN]);
+    assert_eq!(node_beyond(&array_alone), None);
+}
+
+#[test]
+fn steps_near_every_budget() {
+    // Depth n costs 2^(n + 1) − 1, and a range of n around true costs n + 1.
+    let largest = limits::doubling(31);
+    assert_eq!(cost::steps(&largest), u128::from(u32::MAX));
+    let table = largest.bytes();
+    let answer = evaluate(STRICT, &table, &[], u32::MAX - 1, &mut [0]);
+    assert_eq!(answer, refused(11, 0));
+    let over = largest.node(Node::truth(1)).constraint(32).bytes();
+    let answer = evaluate(STRICT, &over, &[], u32::MAX, &mut [0; 2]);
+    assert_eq!(answer, refused(11, 0));
+    for depth in [32, 33, 63, 64, 65, 127, 128, 4_900] {
+        let table = limits::doubling(depth).bytes();
+        let answer = evaluate(STRICT, &table, &[], u32::MAX, &mut [0]);
+        assert_eq!(answer, refused(11, 0), "depth {depth}");
+    }
+}
+
+#[test]
+fn steps_of_nested_ranges() {
+    let steps = |sizes: &[i32]| {
+        let table = limits::nested(sizes);
+        let answer = evaluate(STRICT, &table.bytes(), &[], u32::MAX, &mut [0]);
+        assert_eq!(u128::from(answer.steps), cost::steps(&table));
+        answer.steps
+    };
+    assert_eq!(steps(&[10_000]), 10_001);
+    assert_eq!(steps(&[100, 1_000]), 101_001);
+    assert_eq!(steps(&[10, 10, 10]), 1_111);
+    assert_eq!(steps(&[10, 0, 10]), 11);
+    // Beyond every budget below an empty range: taken no times.
+    assert_eq!(steps(&[10_000, 10_000, 10_000, 10_000, 10_000, 0]), 1);
+    assert_eq!(steps(&[10_000, 10_000, 10_000, 10_000, 0, 5]), 6);
+    let table = limits::nested(&[10_000; 16]).bytes();
+    let answer = evaluate(STRICT, &table, &[], u32::MAX, &mut [0]);
+    assert_eq!(answer, refused(11, 0));
+}
+
+/// Runs on a stack of eight million bytes.
+fn on_a_usual_stack(trial: fn()) {
+    let thread = std::thread::Builder::new().stack_size(8_000_000);
+    let handle = thread.spawn(trial).expect("a thread");
+    handle.join().expect("the trial passes");
+}
+
+#[test]
+fn deep_chains() {
+    on_a_usual_stack(|| {
+        for choice in CHOICES {
+            assert_eq!(verdict(choice, &limits::chain_of_nots(4_900)), 1);
+            assert_eq!(verdict(choice, &limits::chain_of_nots(4_901)), 0);
+            assert_eq!(verdict(choice, &limits::chain_of_adds(4_900)), 1);
+            assert_eq!(verdict(choice, &limits::chain_of_types(4_900)), 1);
+        }
+    });
+}
+
+#[test]
+fn deep_chains_translated() {
+    on_a_usual_stack(|| {
+        for choice in CHOICES {
+            let nots = limits::chain_of_nots(4_901).bytes();
+            let out = translated(choice, &nots).expect("not writes nothing");
+            assert_eq!(out.len(), 4 * 12);
+            assert_eq!(verdicts(choice, &out, &[]), Ok(vec![0]));
+            let adds = limits::chain_of_adds(2_400).bytes();
+            let out = translated(choice, &adds).expect("it fits");
+            assert_eq!(verdicts(choice, &out, &[]), Ok(vec![1]));
+            let long = limits::chain_of_adds(4_900).bytes();
+            assert_eq!(translated(choice, &long), Err(refused(9, 0)));
+        }
+    });
+}

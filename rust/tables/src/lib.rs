@@ -1,0 +1,25 @@
+//! Constraint tables for trials and benchmarks.
+//!
+//! [`Table`] is a readable builder. [`trials`] holds the worked examples,
+//! [`limits`] tables at the edges of what is allowed, [`random`] seeded sound
+//! tables of every kind, [`damage`] faulty ones, and [`shrink`] makes a failing
+//! table smaller. Nothing here checks or evaluates a table.
+
+#![forbid(unsafe_code)]
+#![warn(missing_docs)]
+
+mod builder;
+pub mod cost;
+pub mod damage;
+pub mod kinds;
+pub mod limits;
+mod prng;
+pub mod random;
+mod row;
+pub mod shrink;
+pub mod trials;
+
+pub use builder::{Array, Element, Node, Slot, Table, Variable};
+pub use kinds::Type;
+pub use prng::Random;
+pub use row::{bytes_of, from_hex, hex, pretty, rows_of, Row, ROW_BYTES};
