@@ -1,0 +1,42 @@
+-- A column of the table of kinds at a row.
+-- Assumes nothing.
+use mathlib.Core.Path.{_≡_, refl, ap, _∙_, sym}
+use mathlib.Core.List.{List, [], _∷_, map}
+use mathlib.Core.Option.{Option, none}
+use mathlib.Core.Bool.{Bool, true, false, cond}
+use Prim.Native.Nat.{ℕ, zero, suc, _≤_, _<_}
+use native.Mathlib.Nat.{le-of-suc-le-suc, not-suc-le-zero}
+use native.Mathlib.Omega.{arith}
+use borrow.Author.Tests.{ltb-true, ltb-false, lt-ltb, le-ltb}
+use lib.Dec.{ltb}
+use lib.ListN.{length, getD, List·getD-eq-default}
+use Rattle.table.specs.Kinds.{Kind, kinds, kindOf}
+use Rattle.kinds.specs.Entries.{rowOf}
+
+-- an element of a list of results
+pub getD-map : {A B : Type 0} (f : A → B) (xs : List A) (n : ℕ) (d : A) (e : B) → n < length xs → getD (map f xs) n e ≡ f (getD xs n d)
+getD-map f [] n d e h = absurd (not-suc-le-zero h)
+getD-map f (x ∷ xs) zero d e h = refl
+getD-map f (x ∷ xs) (suc n) d e h = getD-map f xs n d e (le-of-suc-le-suc h)
+
+-- the kinds are the numbers below 31
+pub kind-beyond : (n : ℕ) → 31 ≤ n → kindOf n ≡ none
+unfolding kindOf kinds
+kind-beyond n h = List·getD-eq-default kinds none h
+
+pub row-within : (n : ℕ) → rowOf n < 31
+unfolding rowOf
+row-within n = go (ltb n 31) (ltb-true n 31)
+  where
+    go : (b : Bool) → (b ≡ true → n < 31) → cond b n 0 < 31
+    go true h = h refl
+    go false h = omega arith
+
+-- what a column has at the row of a number
+pub at-row : {B : Type 0} (f : Option Kind → B) (n : ℕ) (e : B) → getD (map f kinds) (rowOf n) e ≡ f (kindOf n)
+unfolding kindOf kinds rowOf
+at-row f n e = go (ltb n 31) (ltb-true n 31) (ltb-false n 31)
+  where
+    go : (b : Bool) → (b ≡ true → n < 31) → (b ≡ false → 31 ≤ n) → getD (map f kinds) (cond b n 0) e ≡ f (getD kinds n none)
+    go true h k = getD-map f kinds n none e (h refl)
+    go false h k = ap f (sym (List·getD-eq-default kinds none (k refl)))

@@ -1,0 +1,26 @@
+-- `table::aux_at` meets its contract: the record is within the table.
+-- Assumes nothing.
+use native.Mathlib.Omega.{arith}
+use mathlib.Core.Path.{refl}
+use Rattle.table.specs.Records.{recordSize, recordCount, byteAt, auxAt}
+use Rattle.table.proofs.aux_at.Statement.{statement}
+use Rattle.table.proofs.aux_at.Tie as tie
+
+mul-result : tie.Need-mul-result
+unfolding recordSize recordCount
+mul-result c = omega arith
+
+add-result : tie.Need-add-result
+unfolding recordSize recordCount
+add-result c = omega arith
+
+shared-slice-read-result : tie.Need-shared-slice-read-result
+unfolding recordSize recordCount
+shared-slice-read-result c = omega arith
+
+returns : tie.Need-returns
+unfolding auxAt byteAt recordSize
+returns c = refl
+
+pub aux-at-spec : {M : Type 1} → statement M
+aux-at-spec = tie.close (tie.spec mul-result add-result shared-slice-read-result returns)

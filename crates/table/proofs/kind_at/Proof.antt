@@ -1,0 +1,26 @@
+-- `table::kind_at` meets its contract: the record is within the table.
+-- Assumes nothing.
+use native.Mathlib.Omega.{arith}
+use mathlib.Core.Path.{refl}
+use Rattle.table.specs.Records.{recordSize, recordCount, byteAt, kindAt}
+use Rattle.table.proofs.kind_at.Statement.{statement}
+use Rattle.table.proofs.kind_at.Tie as tie
+
+mul-result : tie.Need-mul-result
+unfolding recordSize recordCount
+mul-result c = omega arith
+
+add-result : tie.Need-add-result
+unfolding recordSize recordCount
+add-result c = omega arith
+
+shared-slice-read-result : tie.Need-shared-slice-read-result
+unfolding recordSize recordCount
+shared-slice-read-result c = omega arith
+
+returns : tie.Need-returns
+unfolding kindAt byteAt recordSize
+returns c = refl
+
+pub kind-at-spec : {M : Type 1} → statement M
+kind-at-spec = tie.close (tie.spec mul-result add-result shared-slice-read-result returns)
