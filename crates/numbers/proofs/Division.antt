@@ -5,7 +5,7 @@ use Prim.Native.Nat.{ℕ, zero, suc, _-_, _≤_, _<_}
 use native.Mathlib.Omega.{arith}
 use native.Mathlib.Nat.{div-le-self, mod-lt}
 use mathlib.Core.Bool.{not, cond}
-use lib.Dec.{T, eqb→eq, leb→le, le→leb}
+use lib.Dec.{T, eqb→eq, eqb-refl, leb→le, le→leb}
 use lib.IntN.{ℤ, pos, negsuc, negℤ, _+ℤ_, natAbs}
 use lib.Signed.{nonNeg, remZ, _≤ℤ_}
 use Rattle.numbers.specs.Limits.{limit}
@@ -21,6 +21,12 @@ eqZ→≡ (pos a) (pos b) t = ap pos (eqb→eq a b t)
 eqZ→≡ (pos a) (negsuc b) t = absurd t
 eqZ→≡ (negsuc a) (pos b) t = absurd t
 eqZ→≡ (negsuc a) (negsuc b) t = ap negsuc (eqb→eq a b t)
+
+-- A number passes the test with itself.
+pub eqZ-refl : (a : ℤ) → T (eqZ a a)
+unfolding eqZ
+eqZ-refl (pos a) = eqb-refl a
+eqZ-refl (negsuc a) = eqb-refl a
 
 -- ---- magnitudes
 

@@ -13,7 +13,7 @@ use Rattle.rules.proofs.Every.{All-snoc}
 
 module _ (Γ : Declarations) where
   -- Rows that fit in two goes fit in one.
-  RowsFit-++ : (before xs ys : List Row) → RowsFit Γ before xs → RowsFit Γ (before ++ xs) ys → RowsFit Γ before (xs ++ ys)
+  pub RowsFit-++ : (before xs ys : List Row) → RowsFit Γ before xs → RowsFit Γ (before ++ xs) ys → RowsFit Γ before (xs ++ ys)
   RowsFit-++ before [] ys h k = rw append-nil at k
   RowsFit-++ before (x ∷ xs) ys h k = (h .0, RowsFit-++ (before ++ (x ∷ [])) xs ys (h .1) (rw append-snoc k))
 

@@ -1,5 +1,6 @@
 pub mod Adding
 pub mod Calm
+pub mod CalmCompanions
 pub mod Claims
 pub mod Companions
 pub mod Connectives
@@ -7,9 +8,11 @@ pub mod Demand
 pub mod Every
 pub mod Filling
 pub mod Formulas
+pub mod FreeCompanions
 pub mod Guards
 pub mod Intervals
 pub mod Lookups
+pub mod LowEnds
 pub mod Meaning
 pub mod Nodes
 pub mod Operands

@@ -109,7 +109,7 @@ RowFits→NamesBelow Γ before (compareRow c a b) h = (h .0 .earlier, h .1 .earl
 RowFits→NamesBelow Γ before (quantifyRow q s a) h = h .1 .earlier
 
 -- Each row fits behind those before it.
-RowsFit-at : (Γ : Declarations) (before rows : List Row) → RowsFit Γ before rows → (k : ℕ) (d : Row) → k < length rows
+pub RowsFit-at : (Γ : Declarations) (before rows : List Row) → RowsFit Γ before rows → (k : ℕ) (d : Row) → k < length rows
     → RowFits Γ (before ++ take k rows) (getD rows k d)
 RowsFit-at Γ before [] fit k d h = absurd (not-suc-le-zero h)
 RowsFit-at Γ before (r ∷ rows) fit zero d h = rw append-nil (fit .0)

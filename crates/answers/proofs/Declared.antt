@@ -1,0 +1,60 @@
+-- What a table declares, by number: the variable, slot, array or row of each number is the one of its record, and there are as many as there
+-- are records.
+-- Assumes nothing.
+use mathlib.Core.Path.{_≡_, refl}
+use Prim.Native.Nat.{ℕ, zero, suc, _+_, _<_}
+use native.Mathlib.Nat.{not-suc-le-zero, le-of-suc-le-suc}
+use mathlib.Core.List.{List, [], _∷_, map}
+use lib.ListN.{length, getD, length-map}
+use Rattle.language.specs.Tables.{Row}
+use Rattle.language.specs.Meaning.{slotAt, arrayAt}
+use Rattle.rules.specs.Bounds.{variableAt}
+use Rattle.answers.specs.Sections.{variablesAt, slotsAt, nodesAt, variableCount, slotCount, arrayRecords, nodeCount, constraintCount, variableOf, slotOf, arrayOf, rowOf, declarations, rows, constraints}
+use Rattle.answers.proofs.Listed.{length-listed, getD-listed}
+
+-- The element at a place of a list, under a function.
+pub getD-map : {A B : Type 0} (f : A → B) (l : List A) (d : A) (e : B) (k : ℕ) → k < length l → getD (map f l) k e ≡ f (getD l k d)
+getD-map f [] d e k h = absurd (not-suc-le-zero h)
+getD-map f (x ∷ l) d e zero h = refl
+getD-map f (x ∷ l) d e (suc k) h = getD-map f l d e k (le-of-suc-le-suc h)
+
+module _ (bs : List ℕ) where
+  -- ---- how many
+
+  pub length-variables : length (declarations bs .variables) ≡ variableCount bs
+  unfolding declarations
+  length-variables = length-listed (variableCount bs) _
+
+  pub length-slots : length (declarations bs .slots) ≡ slotCount bs
+  unfolding declarations
+  length-slots = length-listed (slotCount bs) _
+
+  pub length-arrays : length (declarations bs .arrays) ≡ length (arrayRecords bs)
+  unfolding declarations
+  length-arrays = length-map (arrayRecords bs) (arrayOf bs)
+
+  pub length-rows : length (rows bs) ≡ nodeCount bs
+  unfolding rows
+  length-rows = length-listed (nodeCount bs) _
+
+  pub length-constraints : length (constraints bs) ≡ constraintCount bs
+  unfolding constraints
+  length-constraints = length-listed (constraintCount bs) _
+
+  -- ---- which
+
+  pub variableAt-declarations : (v : ℕ) → v < variableCount bs → variableAt (declarations bs) v ≡ variableOf bs (variablesAt bs + v)
+  unfolding declarations variableAt
+  variableAt-declarations v h = getD-listed (variableCount bs) _ _ v h
+
+  pub slotAt-declarations : (s : ℕ) → s < slotCount bs → slotAt (declarations bs) s ≡ slotOf bs (slotsAt bs + s)
+  unfolding declarations slotAt
+  slotAt-declarations s h = getD-listed (slotCount bs) _ _ s h
+
+  pub arrayAt-declarations : (A : ℕ) → A < length (arrayRecords bs) → arrayAt (declarations bs) A ≡ arrayOf bs (getD (arrayRecords bs) A 0)
+  unfolding declarations arrayAt
+  arrayAt-declarations A h = getD-map (arrayOf bs) (arrayRecords bs) 0 _ A h
+
+  pub getD-rows : (k : ℕ) (d : Row) → k < nodeCount bs → getD (rows bs) k d ≡ rowOf bs (nodesAt bs + k)
+  unfolding rows
+  getD-rows k d h = getD-listed (nodeCount bs) _ d k h

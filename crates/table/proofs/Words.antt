@@ -1,0 +1,46 @@
+-- Words: a signed number of 32 bits is read back from the bytes that it is written as.
+-- Assumes nothing.
+use mathlib.Core.Path.{_≡_, ap, _∙_}
+use Prim.Native.Nat.{ℕ, _+_, _*_, _-_, _/_, _%_, _≤_, _<_}
+use native.Mathlib.Nat.{div-div-eq-div-mul}
+use native.Mathlib.Omega.{arith}
+use lib.Arith.{le→nltb}
+use lib.Dec.{ltb, ltb→lt, lt→ltb, nltb→le}
+use lib.IntN.{ℤ, pos, negsuc}
+use lib.Signed.{mag}
+use Rattle.numbers.proofs.Tests.{cond-cases, T→≡true, Tnot→≡false}
+use Rattle.table.specs.Records.{signed, bitsOf}
+
+-- z is a signed number of 32 bits
+abbrev pub InWord : ℤ → Type 0
+InWord z = mag z < 0x8000_0000
+
+-- What 32 bits stand for is such a number.
+pub InWord-signed : (w : ℕ) → InWord (signed w)
+unfolding signed
+InWord-signed w = cond-cases InWord (ltb w 0x8000_0000) (λ t. ltb→lt w 0x8000_0000 t) (λ t. small w (nltb→le w 0x8000_0000 t))
+  where
+    small : (w : ℕ) → 0x8000_0000 ≤ w → 0xffff_ffff - w < 0x8000_0000
+    small w h = omega arith
+
+-- Its bits are 32,
+bitsOf-below : (z : ℤ) → InWord z → bitsOf z < 0x1_0000_0000
+unfolding bitsOf
+bitsOf-below (pos n) h = omega arith
+bitsOf-below (negsuc n) h = omega arith
+
+-- and they stand for it.
+signed-bitsOf : (z : ℤ) → InWord z → signed (bitsOf z) ≡ z
+unfolding signed bitsOf
+signed-bitsOf (pos n) h = rw (T→≡true (ltb n 0x8000_0000) (lt→ltb n 0x8000_0000 h))
+signed-bitsOf (negsuc n) h =
+    rw (Tnot→≡false (ltb (0xffff_ffff - n) 0x8000_0000) (le→nltb (0xffff_ffff - n) 0x8000_0000 (omega arith))) (ap negsuc (omega arith))
+
+-- Four bytes of 32 bits, low byte first, make up the word.
+bytes-word : (w : ℕ) → w < 0x1_0000_0000 → w % 256 + 256 * (w / 256 % 256 + 256 * (w / 65_536 % 256 + 256 * (w / 16_777_216 % 256))) ≡ w
+bytes-word w h = rw (← div-div-eq-div-mul w 256 256, ← div-div-eq-div-mul w 65_536 256, ← div-div-eq-div-mul w 256 256) (omega arith)
+
+-- So the four bytes of a number's bits stand for the number.
+pub signed-bytes : (z : ℤ) → InWord z
+    → signed (bitsOf z % 256 + 256 * (bitsOf z / 256 % 256 + 256 * (bitsOf z / 65_536 % 256 + 256 * (bitsOf z / 16_777_216 % 256)))) ≡ z
+signed-bytes z h = ap signed (bytes-word (bitsOf z) (bitsOf-below z h)) ∙ signed-bitsOf z h
