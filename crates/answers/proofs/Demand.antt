@@ -88,82 +88,86 @@ unfolding allCalm
 allCalm-All bs ρ α [] h = tt
 allCalm-All bs ρ α (k ∷ ks) h = &&-intro (calmB ρ (declarations bs) α (treeB (nodeTrees bs) k) unset) (allCalm bs ρ α ks) (h .0) (allCalm-All bs ρ α ks (h .1))
 
-module _ (bs : List ℕ) (ρ : Reading) (h : Translatable bs ρ) where
+module _ (bs : List ℕ) (ρ : Reading) where
+  -- the declarations of both tables
   abbrev Γ : Declarations
   Γ = declarations bs
 
+  -- the translation
   abbrev new : List ℕ
   new = translation bs ρ
 
+  -- its trees
   abbrev newTrees : List Tree
   newTrees = trees (newRows ρ Γ (rows bs))
 
-  -- An assignment is within the domains of the new table exactly where it is within those of the old one.
-  pub assignmentFault-new : (α : Assignment) → assignmentFault new α ≡ assignmentFault bs α
-  unfolding assignmentFault variablesAt
-  assignmentFault-new α = rw (declarations-new bs ρ h)
+  module _ (h : Translatable bs ρ) where
+    -- An assignment is within the domains of the new table exactly where it is within those of the old one.
+    pub assignmentFault-new : (α : Assignment) → assignmentFault new α ≡ assignmentFault bs α
+    unfolding assignmentFault variablesAt
+    assignmentFault-new α = rw (declarations-new bs ρ h)
 
-  -- The new table's trees are those of the rules' rows.
-  nodeTrees-new : nodeTrees new ≡ newTrees
-  unfolding nodeTrees translated
-  nodeTrees-new = ap trees (rows-new bs ρ h)
+    -- The new table's trees are those of the rules' rows.
+    nodeTrees-new : nodeTrees new ≡ newTrees
+    unfolding nodeTrees translated
+    nodeTrees-new = ap trees (rows-new bs ρ h)
 
-  module _ (k : ℕ) (n : IsNode (rows bs) boolean k) (closed : ClosedNode bs k) where
-    -- No declared slot is free in a constraint,
-    old-free : (t : ℕ) → t < length (Γ .slots) → freeB t (treeB (trees (rows bs)) k) ≡ false
-    unfolding nodeTrees freeIn
-    old-free t l = rw (IsNode→HasTree-bool n .tree) at (closed t (rw length-slots at l))
+    module _ (k : ℕ) (n : IsNode (rows bs) boolean k) (closed : ClosedNode bs k) where
+      -- No declared slot is free in a constraint,
+      old-free : (t : ℕ) → t < length (Γ .slots) → freeB t (treeB (trees (rows bs)) k) ≡ false
+      unfolding nodeTrees freeIn
+      old-free t l = rw (IsNode→HasTree-bool n .tree) at (closed t (rw length-slots at l))
 
-    -- nor in P of it.
-    new-free : (t : ℕ) → t < length (Γ .slots) → freeB t (treeB newTrees (firstOf ρ Γ (rows bs) k)) ≡ false
-    new-free t l =
-        rw (logical-companions ρ Γ (rows bs) (h .passed .well-formed) k n .P-tree)
-        (companions-without-B ρ Γ t (treeB (trees (rows bs)) k) (old-free t l) .0 .not-free)
+      -- nor in P of it.
+      new-free : (t : ℕ) → t < length (Γ .slots) → freeB t (treeB newTrees (firstOf ρ Γ (rows bs) k)) ≡ false
+      new-free t l =
+          rw (logical-companions ρ Γ (rows bs) (h .passed .well-formed) k n .P-tree)
+          (companions-without-B ρ Γ t (treeB (trees (rows bs)) k) (old-free t l) .0 .not-free)
 
-    module _ (ρ′ : Reading) (α : Assignment) (fits : Fits Γ α (lowSetting Γ)) where
-      -- P of a constraint is true exactly where the constraint is.
-      P-told : valueB ρ′ Γ α (treeB newTrees (firstOf ρ Γ (rows bs) k)) unset ≡ some (isTrue (valueB ρ Γ α (treeB (trees (rows bs)) k) unset))
-      unfolding nodeTrees
-      P-told =
-          let met = rows-meet-demand ρ Γ (rows bs) (h .passed .well-formed) (h .bounded) α (lowSetting Γ) fits ρ′ in
-          let P : BExp ⊥ = treeB newTrees (firstOf ρ Γ (rows bs) k) in
-          let e : BExp ⊥ = treeB (trees (rows bs)) k in
-          rw (valueB-agree ρ′ Γ α P unset (lowSetting Γ) (closed-agree Γ P new-free), valueB-agree ρ Γ α e unset (lowSetting Γ) (closed-agree Γ e old-free))
-          (met .truths k n .P-is)
+      module _ (ρ′ : Reading) (α : Assignment) (fits : Fits Γ α (lowSetting Γ)) where
+        -- P of a constraint is true exactly where the constraint is.
+        P-told : valueB ρ′ Γ α (treeB newTrees (firstOf ρ Γ (rows bs) k)) unset ≡ some (isTrue (valueB ρ Γ α (treeB (trees (rows bs)) k) unset))
+        unfolding nodeTrees
+        P-told =
+            let met = rows-meet-demand ρ Γ (rows bs) (h .passed .well-formed) (h .bounded) α (lowSetting Γ) fits ρ′ in
+            let P : BExp ⊥ = treeB newTrees (firstOf ρ Γ (rows bs) k) in
+            let e : BExp ⊥ = treeB (trees (rows bs)) k in
+            rw (valueB-agree ρ′ Γ α P unset (lowSetting Γ) (closed-agree Γ P new-free), valueB-agree ρ Γ α e unset (lowSetting Γ) (closed-agree Γ e old-free))
+            (met .truths k n .P-is)
 
-      -- A walk over it meets no number beyond the limit.
-      P-calm : T (calmB ρ′ Γ α (treeB newTrees (firstOf ρ Γ (rows bs) k)) unset)
-      unfolding nodeTrees
-      P-calm =
-          let P : BExp ⊥ = treeB newTrees (firstOf ρ Γ (rows bs) k) in
-          rw (calmB-agree ρ′ Γ α P unset (lowSetting Γ) (closed-agree Γ P new-free))
-          (calm-P ρ ρ′ Γ (rows bs) (h .passed .well-formed) (h .bounded) α (lowSetting Γ) fits k n)
+        -- A walk over it meets no number beyond the limit.
+        P-calm : T (calmB ρ′ Γ α (treeB newTrees (firstOf ρ Γ (rows bs) k)) unset)
+        unfolding nodeTrees
+        P-calm =
+            let P : BExp ⊥ = treeB newTrees (firstOf ρ Γ (rows bs) k) in
+            rw (calmB-agree ρ′ Γ α P unset (lowSetting Γ) (closed-agree Γ P new-free))
+            (calm-P ρ ρ′ Γ (rows bs) (h .passed .well-formed) (h .bounded) α (lowSetting Γ) fits k n)
 
-  -- Each constraint of a table that is translated is a Boolean node with no free slot.
-  constraint-node : (i : ℕ) → i < length (constraints bs) → IsNode (rows bs) boolean (getD (constraints bs) i 0)
-  constraint-node = All-lookup (IsNode (rows bs) boolean) (constraints bs) 0 (h .passed .boolean-constraints)
+    -- Each constraint of a table that is translated is a Boolean node with no free slot.
+    constraint-node : (i : ℕ) → i < length (constraints bs) → IsNode (rows bs) boolean (getD (constraints bs) i 0)
+    constraint-node = All-lookup (IsNode (rows bs) boolean) (constraints bs) 0 (h .passed .boolean-constraints)
 
-  constraint-closed : (i : ℕ) → i < length (constraints bs) → ClosedNode bs (getD (constraints bs) i 0)
-  constraint-closed = All-lookup (ClosedNode bs) (constraints bs) 0 (h .passed .closed-constraints)
+    constraint-closed : (i : ℕ) → i < length (constraints bs) → ClosedNode bs (getD (constraints bs) i 0)
+    constraint-closed = All-lookup (ClosedNode bs) (constraints bs) 0 (h .passed .closed-constraints)
 
-  -- The translation meets the demand.
-  pub translation-meets-demand : (ρ′ : Reading) (α : Assignment) → assignmentFault bs α ≡ none → BytesDemand bs ρ ρ′ α
-  unfolding valueOfConstraint translated nodeTrees
-  translation-meets-demand ρ′ α a =
-      let fits : Fits Γ α (lowSetting Γ) = assignmentFault→Fits bs α a in
-      let first : ℕ → ℕ = firstOf ρ Γ (rows bs) in
-      let calm-each : All (λ k. T (calmB ρ′ Γ α (treeB newTrees k) unset)) (map first (constraints bs)) =
-      All-mapped (λ k. T (calmB ρ′ Γ α (treeB newTrees k) unset)) first (constraints bs)
-      (All-at (λ k. T (calmB ρ′ Γ α (treeB newTrees (first k)) unset)) (constraints bs) 0
-      (λ i l. P-calm (getD (constraints bs) i 0) (constraint-node i l) (constraint-closed i l) ρ′ α fits)) in
-      record {
-        assignment = assignmentFault-new α ∙ a;
-        calm = T→≡true _ (allCalm-All new ρ′ α (constraints new) (rw (declarations-new bs ρ h, rows-new bs ρ h, constraints-new bs ρ h) calm-each));
-        as-many = ap length (constraints-new bs ρ h) ∙ length-map (constraints bs) first;
-        told = λ i l.
-            rw (declarations-new bs ρ h, rows-new bs ρ h, constraints-new bs ρ h, getD-map first (constraints bs) 0 0 i l)
-            (P-told (getD (constraints bs) i 0) (constraint-node i l) (constraint-closed i l) ρ′ α fits);
-      }
+    -- The translation meets the demand.
+    pub translation-meets-demand : (ρ′ : Reading) (α : Assignment) → assignmentFault bs α ≡ none → BytesDemand bs ρ ρ′ α
+    unfolding valueOfConstraint translated nodeTrees
+    translation-meets-demand ρ′ α a =
+        let fits : Fits Γ α (lowSetting Γ) = assignmentFault→Fits bs α a in
+        let first : ℕ → ℕ = firstOf ρ Γ (rows bs) in
+        let calm-each : All (λ k. T (calmB ρ′ Γ α (treeB newTrees k) unset)) (map first (constraints bs)) =
+        All-mapped (λ k. T (calmB ρ′ Γ α (treeB newTrees k) unset)) first (constraints bs)
+        (All-at (λ k. T (calmB ρ′ Γ α (treeB newTrees (first k)) unset)) (constraints bs) 0
+        (λ i l. P-calm (getD (constraints bs) i 0) (constraint-node i l) (constraint-closed i l) ρ′ α fits)) in
+        record {
+          assignment = assignmentFault-new α ∙ a;
+          calm = T→≡true _ (allCalm-All new ρ′ α (constraints new) (rw (declarations-new bs ρ h, rows-new bs ρ h, constraints-new bs ρ h) calm-each));
+          as-many = ap length (constraints-new bs ρ h) ∙ length-map (constraints bs) first;
+          told = λ i l.
+              rw (declarations-new bs ρ h, rows-new bs ρ h, constraints-new bs ρ h, getD-map first (constraints bs) 0 0 i l)
+              (P-told (getD (constraints bs) i 0) (constraint-node i l) (constraint-closed i l) ρ′ α fits);
+        }
 
 -- Demand 3 on bytes, in the words of the answers: a table that is not refused, and an assignment that is not refused for it.
 pub demand-3 : (bs : List ℕ) (ρ ρ′ : Reading) (α : Assignment) → checkFault bs ≡ none → boundsFault bs ≡ none → roomFault bs ρ mostBytes ≡ none

@@ -32,7 +32,6 @@ use Rattle.answers.proofs.NoFaults.{LengthAllowed, NoFaults→checkFaul
 use Rattle.answers.proofs.NodesFit.{NodePassed→none}
 use Rattle.answers.proofs.ConstraintsFit.{ClosedNode, ConstraintPassed→none}
 use Rattle.answers.proofs.RowRecords.{rowOf-RecordIs, RowFits→NodePassed}
-use Rattle.answers.proofs.Passed.{SectionsOrdered, Passed→SectionsOrdered}
 use Rattle.answers.proofs.NewRecords.{length-translation, recordCount-translation, copied-alike}
 use Rattle.answers.proofs.NewWords.{header-is, node-is, constraint-is, P-of-constraint}
 use Rattle.answers.proofs.NewSections.{slotsAt-new, variableCount-new, slotCount-new}
@@ -41,117 +40,117 @@ use Rattle.answers.proofs.NewTable.{constraintsAt-new, restAt-new, node
 use Rattle.answers.proofs.SameFaults.{variableFault-alike, slotFault-alike}
 use Rattle.answers.proofs.Translatable.{Translatable}
 
-module _ (bs : List ℕ) (ρ : Reading) (h : Translatable bs ρ) where
+module _ (bs : List ℕ) (ρ : Reading) where
+  -- the translation
   abbrev new : List ℕ
   new = translation bs ρ
 
+  -- its rows
   abbrev newTable : List Row
   newTable = translated bs ρ .rows
 
-  o : SectionsOrdered bs
-  o = Passed→SectionsOrdered bs (h .passed)
+  module _ (h : Translatable bs ρ) where
+    -- The new table's length is allowed.
+    length-allowed : LengthAllowed new
+    unfolding newCount
+    length-allowed =
+        let some-record : 1 ≤ newCount bs ρ = omega (arith, h .sections .slots-after, h .sections .arrays-after, h .sections .nodes-after) in
+        let size : length new ≡ recordSize * newCount bs ρ = length-translation bs ρ (h .passed) in
+        record {
+          some-bytes = rw size (rw mul-one at (mul-le-mul-left recordSize some-record));
+          few-bytes = rw size (h .few-bytes);
+          whole = rw size (mul-mod-right recordSize (newCount bs ρ));
+        }
 
-  -- The new table's length is allowed.
-  length-allowed : LengthAllowed new
-  unfolding newCount
-  length-allowed =
-      let some-record : 1 ≤ newCount bs ρ = omega (arith, o .slots-after, o .arrays-after, o .nodes-after) in
-      let size : length new ≡ recordSize * newCount bs ρ = length-translation bs ρ (h .passed) in
-      record {
-        some-bytes = rw size (rw mul-one at (mul-le-mul-left recordSize some-record));
-        few-bytes = rw size (h .few-bytes);
-        whole = rw size (mul-mod-right recordSize (newCount bs ρ));
-      }
+    -- Its header counts its records.
+    header-none : headerFault new 0 ≡ none
+    unfolding headerFault isZero firstLetter secondLetter
+    header-none =
+        let r = header-is bs ρ h in
+        orElse-none (unless-none 2 _ (rw (r .marks HD) tt))
+        (unless-none 3 _
+        (rw (r .kind-is, r .aux-is, r .x-is, r .y-is, recordCount-translation bs ρ (h .passed)) (&&-intro (eqZ (pos (newCount bs ρ)) (pos (newCount bs ρ))) _ (eqZ-refl (pos (newCount bs ρ))) (eqZ-refl (pos 0)))))
 
-  -- Its header counts its records.
-  header-none : headerFault new 0 ≡ none
-  unfolding headerFault isZero firstLetter secondLetter
-  header-none =
-      let r = header-is bs ρ h in
-      orElse-none (unless-none 2 _ (rw (r .marks HD) tt))
-      (unless-none 3 _
-      (rw (r .kind-is, r .aux-is, r .x-is, r .y-is, recordCount-translation bs ρ (h .passed)) (&&-intro (eqZ (pos (newCount bs ρ)) (pos (newCount bs ρ))) _ (eqZ-refl (pos (newCount bs ρ))) (eqZ-refl (pos 0)))))
+    -- Its variables and slots are copied.
+    variables-none : (i : ℕ) → i < variableCount new → variableFault new i (variablesAt new + i) ≡ none
+    unfolding variablesAt
+    variables-none i l =
+        let b : i < variableCount bs = rw (variableCount-new bs ρ h) at l in
+        variableFault-alike (copied-alike bs ρ (h .passed) (1 + i) (omega arith) (omega (arith, h .sections .slots-after, h .sections .arrays-after, h .sections .nodes-after))) i ∙ h .passed .variables-passed i b
 
-  -- Its variables and slots are copied.
-  variables-none : (i : ℕ) → i < variableCount new → variableFault new i (variablesAt new + i) ≡ none
-  unfolding variablesAt
-  variables-none i l =
-      let b : i < variableCount bs = rw (variableCount-new bs ρ h) at l in
-      variableFault-alike (copied-alike bs ρ (h .passed) (1 + i) (omega arith) (omega (arith, o .slots-after, o .arrays-after, o .nodes-after))) i ∙ h .passed .variables-passed i b
+    slots-none : (i : ℕ) → i < slotCount new → slotFault new i (slotsAt new + i) ≡ none
+    slots-none i l =
+        let b : i < slotCount bs = rw (slotCount-new bs ρ h) at l in
+        rw (slotsAt-new bs ρ h)
+        (slotFault-alike (copied-alike bs ρ (h .passed) (slotsAt bs + i) (omega (arith, h .sections .slots-after)) (omega (arith, h .sections .arrays-after, h .sections .nodes-after))) i ∙ h .passed .slots-passed i b)
 
-  slots-none : (i : ℕ) → i < slotCount new → slotFault new i (slotsAt new + i) ≡ none
-  slots-none i l =
-      let b : i < slotCount bs = rw (slotCount-new bs ρ h) at l in
-      rw (slotsAt-new bs ρ h)
-      (slotFault-alike (copied-alike bs ρ (h .passed) (slotsAt bs + i) (omega (arith, o .slots-after)) (omega (arith, o .arrays-after, o .nodes-after))) i ∙ h .passed .slots-passed i b)
+    -- ---- nodes
 
-  -- ---- nodes
+    -- The rows of its first n nodes are the first n of the rules' rows.
+    rowsBelow-new : (n : ℕ) → n ≤ length newTable → rowsBelow new n ≡ take n newTable
+    rowsBelow-new n l =
+        listed-≡ n _ (take n newTable) (truthRow true) (length-take-le n newTable l)
+        (λ k b.
+        rw (nodesAt-new bs ρ h)
+        (rowOf-RecordIs new (nodesAt bs + k) (getD newTable k (truthRow true)) (node-is bs ρ h k (truthRow true) (omega arith))
+        ∙ sym (getD-take n newTable k (truthRow true) b)))
 
-  -- The rows of its first n nodes are the first n of the rules' rows.
-  rowsBelow-new : (n : ℕ) → n ≤ length newTable → rowsBelow new n ≡ take n newTable
-  rowsBelow-new n l =
-      listed-≡ n _ (take n newTable) (truthRow true) (length-take-le n newTable l)
-      (λ k b.
-      rw (nodesAt-new bs ρ h)
-      (rowOf-RecordIs new (nodesAt bs + k) (getD newTable k (truthRow true)) (node-is bs ρ h k (truthRow true) (omega arith))
-      ∙ sym (getD-take n newTable k (truthRow true) b)))
+    -- Its nodes fit behind those before them.
+    nodes-none : (n : ℕ) → n < nodeCount new → nodeFault new n (nodesAt new + n) ≡ none
+    unfolding translated
+    nodes-none n l =
+        let b : n < length newTable = rw (nodeCount-new bs ρ h) at l in
+        let r : Row = getD newTable n (truthRow true) in
+        let fits : RowFits (declarations bs) (take n newTable) r =
+        RowsFit-at (declarations bs) [] newTable (WellFormed-newRows ρ (declarations bs) (rows bs) (h .passed .well-formed) .rows-fit) n (truthRow true) b in
+        rw (nodesAt-new bs ρ h)
+        (NodePassed→none new n (nodesAt bs + n)
+        (RowFits→NodePassed new (nodesAt bs + n) r (node-is bs ρ h n (truthRow true) b) n
+        (rw (declarations-new bs ρ h, rowsBelow-new n (omega arith)) fits)))
 
-  -- Its nodes fit behind those before them.
-  nodes-none : (n : ℕ) → n < nodeCount new → nodeFault new n (nodesAt new + n) ≡ none
-  unfolding translated
-  nodes-none n l =
-      let b : n < length newTable = rw (nodeCount-new bs ρ h) at l in
-      let r : Row = getD newTable n (truthRow true) in
-      let fits : RowFits (declarations bs) (take n newTable) r =
-      RowsFit-at (declarations bs) [] newTable (WellFormed-newRows ρ (declarations bs) (rows bs) (h .passed .well-formed) .rows-fit) n (truthRow true) b in
-      rw (nodesAt-new bs ρ h)
-      (NodePassed→none new n (nodesAt bs + n)
-      (RowFits→NodePassed new (nodesAt bs + n) r (node-is bs ρ h n (truthRow true) b) n
-      (rw (declarations-new bs ρ h, rowsBelow-new n (omega arith)) fits)))
+    -- ---- constraints
 
-  -- ---- constraints
+    -- P of a constraint has no free slot.
+    closed-P : (k : ℕ) → IsNode (rows bs) boolean k → ClosedNode bs k → ClosedNode new (firstOf ρ (declarations bs) (rows bs) k)
+    unfolding nodeTrees translated freeIn
+    closed-P k n closed t l =
+        let c = logical-companions ρ (declarations bs) (rows bs) (h .passed .well-formed) k n in
+        let old : freeB t (treeB (trees (rows bs)) k) ≡ false = rw (IsNode→HasTree-bool n .tree) at (closed t (rw (slotCount-new bs ρ h) at l)) in
+        rw (rows-new bs ρ h, IsNode→HasTree-bool (c .P-node) .tree, c .P-tree) (companions-without-B ρ (declarations bs) t (treeB (trees (rows bs)) k) old .0 .not-free)
 
-  -- P of a constraint has no free slot.
-  closed-P : (k : ℕ) → IsNode (rows bs) boolean k → ClosedNode bs k → ClosedNode new (firstOf ρ (declarations bs) (rows bs) k)
-  unfolding nodeTrees translated freeIn
-  closed-P k n closed t l =
-      let c = logical-companions ρ (declarations bs) (rows bs) (h .passed .well-formed) k n in
-      let old : freeB t (treeB (trees (rows bs)) k) ≡ false = rw (IsNode→HasTree-bool n .tree) at (closed t (rw (slotCount-new bs ρ h) at l)) in
-      rw (rows-new bs ρ h, IsNode→HasTree-bool (c .P-node) .tree, c .P-tree) (companions-without-B ρ (declarations bs) t (treeB (trees (rows bs)) k) old .0 .not-free)
+    -- Its constraints name such nodes.
+    constraints-none : (i : ℕ) → i < constraintCount new → constraintFault new (constraintsAt new + i) ≡ none
+    unfolding translated
+    constraints-none i l =
+        let b : i < length (constraints bs) = rw (constraintCount-new bs ρ h) at l in
+        let k : ℕ = getD (constraints bs) i 0 in
+        let n : IsNode (rows bs) boolean k = All-lookup (IsNode (rows bs) boolean) (constraints bs) 0 (h .passed .boolean-constraints) i b in
+        let c : ClosedNode bs k = All-lookup (ClosedNode bs) (constraints bs) 0 (h .passed .closed-constraints) i b in
+        let r = constraint-is bs ρ h i b in
+        rw (constraintsAt-new bs ρ h)
+        (ConstraintPassed→none new (nodesAt bs + length newTable + i)
+        (record {
+          kind-is = r .kind-is;
+          aux-is = r .aux-is;
+          y-is = r .y-is;
+          nonneg = rw (r .x-is) tt;
+          node = rw (r .x-is, rows-new bs ρ h) (P-of-constraint bs ρ h k n);
+          closed = rw (r .x-is) (closed-P k n c);
+        }))
 
-  -- Its constraints name such nodes.
-  constraints-none : (i : ℕ) → i < constraintCount new → constraintFault new (constraintsAt new + i) ≡ none
-  unfolding translated
-  constraints-none i l =
-      let b : i < length (constraints bs) = rw (constraintCount-new bs ρ h) at l in
-      let k : ℕ = getD (constraints bs) i 0 in
-      let n : IsNode (rows bs) boolean k = All-lookup (IsNode (rows bs) boolean) (constraints bs) 0 (h .passed .boolean-constraints) i b in
-      let c : ClosedNode bs k = All-lookup (ClosedNode bs) (constraints bs) 0 (h .passed .closed-constraints) i b in
-      let r = constraint-is bs ρ h i b in
-      rw (constraintsAt-new bs ρ h)
-      (ConstraintPassed→none new (nodesAt bs + length newTable + i)
-      (record {
-        kind-is = r .kind-is;
-        aux-is = r .aux-is;
-        y-is = r .y-is;
-        nonneg = rw (r .x-is) tt;
-        node = rw (r .x-is, rows-new bs ρ h) (P-of-constraint bs ρ h k n);
-        closed = rw (r .x-is) (closed-P k n c);
-      }))
+    -- ---- the check
 
-  -- ---- the check
-
-  -- The check finds no fault in a translation.
-  pub checkFault-new : checkFault new ≡ none
-  checkFault-new =
-      NoFaults→checkFault new
-      (record {
-        length-allowed = length-allowed;
-        header-none = header-none;
-        variables-none = variables-none;
-        slots-none = slots-none;
-        arrays-none = arraysFault-new bs ρ h;
-        nodes-none = nodes-none;
-        constraints-none = constraints-none;
-        no-rest = rw (recordCount-translation bs ρ (h .passed), restAt-new bs ρ h) (omega arith);
-      })
+    -- The check finds no fault in a translation.
+    pub checkFault-new : checkFault new ≡ none
+    checkFault-new =
+        NoFaults→checkFault new
+        (record {
+          length-allowed = length-allowed;
+          header-none = header-none;
+          variables-none = variables-none;
+          slots-none = slots-none;
+          arrays-none = arraysFault-new bs ρ h;
+          nodes-none = nodes-none;
+          constraints-none = constraints-none;
+          no-rest = rw (recordCount-translation bs ρ (h .passed), restAt-new bs ρ h) (omega arith);
+        })

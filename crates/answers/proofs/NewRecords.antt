@@ -2,9 +2,9 @@
 -- Assumes nothing.
 use mathlib.Core.Path.{_≡_, refl, sym, ap, _∙_}
 use Prim.Native.Nat.{ℕ, suc, _+_, _*_, _-_, _≤_, _<_}
-use native.Mathlib.Nat.{le-refl, mul-one, mul-suc, mul-le-mul-left, mul-div-right}
+use native.Mathlib.Nat.{le-refl, add-assoc, mul-one, mul-suc, mul-le-mul-left, mul-div-right}
 use native.Mathlib.Omega.{arith}
-use mathlib.Core.List.{List, [], _∷_, _++_}
+use mathlib.Core.List.{List, [], _∷_, _++_, append-assoc}
 use lib.IntN.{pos}
 use lib.ListN.{length, getD, take, drop, length-append, length-drop}
 use lib.Seq.{length-take-le}
@@ -26,9 +26,10 @@ length-nodeBytes r = rw nodeBytes-is (length-recordBytes ND (numberOf r) (xOf r)
 
 module _ (bs : List ℕ) (ρ : Reading) where
   -- the record that a constraint becomes: "Each CN becomes P of its node."
-  abbrev pub newConstraint : ℕ → List ℕ
+  abbrev newConstraint : ℕ → List ℕ
   newConstraint k = recordBytes CN 0 (pos (getD (translated bs ρ .firsts) k 0)) (pos 0)
 
+  -- It has its size.
   length-newConstraint : (k : ℕ) → length (newConstraint k) ≡ recordSize
   length-newConstraint k = length-recordBytes CN 0 (pos (getD (translated bs ρ .firsts) k 0)) (pos 0)
 
@@ -44,87 +45,64 @@ module _ (bs : List ℕ) (ρ : Reading) where
   newConstraints-joined [] = refl
   newConstraints-joined (k ∷ ks) = ap (λ l. newConstraint k ++ l) (newConstraints-joined ks)
 
-  module _ (m : ℕ) (front : nodesAt bs ≡ suc m) (within : suc m ≤ recordCount bs) (records : length bs ≡ recordSize * recordCount bs) where
-    abbrev header : List ℕ
-    header = recordBytes HD 1 (pos (newCount bs ρ)) (pos 0)
+  -- ---- the parts
 
-    abbrev copied : List ℕ
-    copied = take (recordSize * m) (drop (recordSize * 1) bs)
+  -- the header, the copied declarations, the new nodes and the new constraints
+  abbrev header : List ℕ
+  header = recordBytes HD 1 (pos (newCount bs ρ)) (pos 0)
 
-    abbrev nodes : List ℕ
-    nodes = joined nodeBytes (translated bs ρ .rows)
+  abbrev copied : List ℕ
+  copied = take (recordSize * nodesAt bs - recordSize) (drop recordSize bs)
 
-    abbrev cns : List ℕ
-    cns = joined newConstraint (constraints bs)
+  abbrev nodes : List ℕ
+  nodes = joined nodeBytes (translated bs ρ .rows)
 
-    -- The translation in four parts.
-    translation-parts : translation bs ρ ≡ header ++ (copied ++ (nodes ++ cns))
-    unfolding translation
-    translation-parts =
-        let size : recordSize * nodesAt bs - recordSize ≡ recordSize * m = rw (front, mul-suc) (omega arith) in
-        rw (size, newNodes-joined, newConstraints-joined, mul-one)
+  abbrev finish : List ℕ
+  finish = joined newConstraint (constraints bs)
 
-    length-header : length header ≡ recordSize * 1
-    length-header = length-recordBytes HD 1 (pos (newCount bs ρ)) (pos 0) ∙ sym (mul-one recordSize)
+  -- The translation is these, one behind the other.
+  translation-parts : translation bs ρ ≡ (header ++ copied) ++ (nodes ++ finish)
+  unfolding translation
+  translation-parts = rw (newNodes-joined, newConstraints-joined, append-assoc)
 
-    length-copied : length copied ≡ recordSize * m
-    length-copied = length-take-le (recordSize * m) (drop (recordSize * 1) bs) (rw (length-drop, records, mul-one) (omega (arith, rw mul-suc at (mul-le-mul-left recordSize within))))
+  length-header : length header ≡ recordSize
+  length-header = length-recordBytes HD 1 (pos (newCount bs ρ)) (pos 0)
 
-    length-nodes : length nodes ≡ recordSize * length (translated bs ρ .rows)
-    length-nodes = length-joined nodeBytes length-nodeBytes (translated bs ρ .rows)
+  length-nodes : length nodes ≡ recordSize * length (translated bs ρ .rows)
+  length-nodes = length-joined nodeBytes length-nodeBytes (translated bs ρ .rows)
 
-    length-cns : length cns ≡ recordSize * length (constraints bs)
-    length-cns = length-joined newConstraint length-newConstraint (constraints bs)
-
-    -- The new table is as long as its count says.
-    length-parts : length (translation bs ρ) ≡ recordSize * newCount bs ρ
-    unfolding newCount
-    length-parts =
-        rw (translation-parts, length-append, length-append, length-append, length-header, length-copied, length-nodes, length-cns, front) (omega arith)
-
-    -- The header stands first.
-    header-alike′ : Alike (translation bs ρ) 0 header 0
-    header-alike′ = rw translation-parts (Alike-left header (copied ++ (nodes ++ cns)) 0 (rw length-header (le-refl (recordSize * 1))))
-
-    -- The records behind it are copied.
-    copied-alike′ : (k : ℕ) → k < m → Alike (translation bs ρ) (1 + k) bs (1 + k)
-    copied-alike′ k h =
-        rw translation-parts
-        (Alike-trans (Alike-right header (copied ++ (nodes ++ cns)) 1 k length-header)
-        (Alike-trans (Alike-left copied (nodes ++ cns) k (rw length-copied (mul-le-mul-left recordSize h)))
-        (Alike-trans (Alike-take (drop (recordSize * 1) bs) m k h) (Alike-drop bs 1 k))))
-
-    -- Behind them stand the nodes,
-    node-alike′ : (i : ℕ) (d : Row) → i < length (translated bs ρ .rows) → Alike (translation bs ρ) (1 + (m + i)) (nodeBytes (getD (translated bs ρ .rows) i d)) 0
-    node-alike′ i d h =
-        rw translation-parts
-        (Alike-trans (Alike-right header (copied ++ (nodes ++ cns)) 1 (m + i) length-header)
-        (Alike-trans (Alike-right copied (nodes ++ cns) m i length-copied)
-        (Alike-trans (Alike-left nodes cns i (rw length-nodes (mul-le-mul-left recordSize h)))
-        (joined-alike nodeBytes length-nodeBytes (translated bs ρ .rows) i d h))))
-
-    -- and behind those the constraints.
-    constraint-alike′ : (i : ℕ) (d : ℕ) → i < length (constraints bs)
-        → Alike (translation bs ρ) (1 + (m + (length (translated bs ρ .rows) + i))) (newConstraint (getD (constraints bs) i d)) 0
-    constraint-alike′ i d h =
-        let n : ℕ = length (translated bs ρ .rows) in
-        rw translation-parts
-        (Alike-trans (Alike-right header (copied ++ (nodes ++ cns)) 1 (m + (n + i)) length-header)
-        (Alike-trans (Alike-right copied (nodes ++ cns) m (n + i) length-copied)
-        (Alike-trans (Alike-right nodes cns n i length-nodes)
-        (joined-alike newConstraint length-newConstraint (constraints bs) i d h))))
+  length-finish : length finish ≡ recordSize * length (constraints bs)
+  length-finish = length-joined newConstraint length-newConstraint (constraints bs)
 
   module _ (p : Passed bs) where
-    -- There is a record before the nodes, and they begin within the table.
-    nodesAt-suc : nodesAt bs ≡ suc (nodesAt bs - 1)
-    nodesAt-suc = let o = Passed→SectionsOrdered bs p in omega (arith, o .slots-after, o .arrays-after, o .nodes-after)
+    -- There is a record before the nodes,
+    size-before-nodes : recordSize ≤ recordSize * nodesAt bs
+    size-before-nodes =
+        let o = Passed→SectionsOrdered bs p in
+        let some-record : 1 ≤ nodesAt bs = omega (arith, o .slots-after, o .arrays-after, o .nodes-after) in
+        rw mul-one at (mul-le-mul-left recordSize some-record)
 
-    nodesAt-within : suc (nodesAt bs - 1) ≤ recordCount bs
-    nodesAt-within = let o = Passed→SectionsOrdered bs p in omega (arith, nodesAt-suc, o .constraints-after, o .records-counted)
+    -- and they begin within the table.
+    size-within : recordSize * nodesAt bs ≤ length bs
+    size-within =
+        let o = Passed→SectionsOrdered bs p in
+        rw (p .whole-records) (mul-le-mul-left recordSize (omega (arith, o .constraints-after, o .records-counted)))
 
-    -- The new table is as long as its count says,
+    -- So the copied declarations have the size of those records but the header.
+    length-copied : length copied ≡ recordSize * nodesAt bs - recordSize
+    length-copied = length-take-le (recordSize * nodesAt bs - recordSize) (drop recordSize bs) (rw length-drop (omega (arith, size-within)))
+
+    length-front : length (header ++ copied) ≡ recordSize * nodesAt bs
+    length-front = length-append header copied ∙ rw (length-header, length-copied) (omega (arith, size-before-nodes))
+
+    -- ---- the new table
+
+    -- It is as long as its count says,
     pub length-translation : length (translation bs ρ) ≡ recordSize * newCount bs ρ
-    length-translation = length-parts (nodesAt bs - 1) nodesAt-suc nodesAt-within (p .whole-records)
+    unfolding newCount
+    length-translation =
+        rw (translation-parts, length-append (header ++ copied) (nodes ++ finish), length-append nodes finish, length-front, length-nodes, length-finish)
+        (omega arith)
 
     -- and has so many records.
     pub recordCount-translation : recordCount (translation bs ρ) ≡ newCount bs ρ
@@ -132,26 +110,40 @@ module _ (bs : List ℕ) (ρ : Reading) where
     recordCount-translation = rw length-translation (mul-div-right (newCount bs ρ) 0<recordSize)
 
     -- The header stands first,
-    pub header-alike : Alike (translation bs ρ) 0 (recordBytes HD 1 (pos (newCount bs ρ)) (pos 0)) 0
-    header-alike = header-alike′ (nodesAt bs - 1) nodesAt-suc nodesAt-within (p .whole-records)
+    pub header-alike : Alike (translation bs ρ) 0 header 0
+    header-alike =
+        rw translation-parts
+        (Alike-trans (Alike-left (header ++ copied) (nodes ++ finish) 0 (rw (length-front, mul-one) size-before-nodes))
+        (Alike-left header copied 0 (rw (length-header, mul-one) (le-refl recordSize))))
 
     -- the declarations are copied to the same places,
+    copied-alike-suc : (k : ℕ) → suc k < nodesAt bs → Alike (translation bs ρ) (1 + k) bs (1 + k)
+    copied-alike-suc k h =
+        let two-more : recordSize * suc k + recordSize ≤ recordSize * nodesAt bs = rw (mul-suc recordSize (suc k)) at (mul-le-mul-left recordSize h) in
+        rw translation-parts
+        (Alike-trans (Alike-left (header ++ copied) (nodes ++ finish) (1 + k) (rw length-front (mul-le-mul-left recordSize (omega arith))))
+        (Alike-trans (Alike-right header copied 1 k (length-header ∙ sym (mul-one recordSize)))
+        (Alike-trans (Alike-take (drop recordSize bs) (recordSize * nodesAt bs - recordSize) k (omega arith))
+        (Alike-drop bs 1 recordSize k (sym (mul-one recordSize))))))
+
     pub copied-alike : (k : ℕ) → 1 ≤ k → k < nodesAt bs → Alike (translation bs ρ) k bs k
-    copied-alike k l h =
-        let e : 1 + (k - 1) ≡ k = omega arith in
-        rw e at (copied-alike′ (nodesAt bs - 1) nodesAt-suc nodesAt-within (p .whole-records) (k - 1) (omega arith))
+    copied-alike k l h = let e : 1 + (k - 1) ≡ k = omega arith in rw e at (copied-alike-suc (k - 1) (omega arith))
 
     -- the nodes begin where they began,
     pub node-alike : (i : ℕ) (d : Row) → i < length (translated bs ρ .rows)
         → Alike (translation bs ρ) (nodesAt bs + i) (nodeBytes (getD (translated bs ρ .rows) i d)) 0
     node-alike i d h =
-        let e : 1 + (nodesAt bs - 1 + i) ≡ nodesAt bs + i = omega (arith, nodesAt-suc) in
-        rw e at (node-alike′ (nodesAt bs - 1) nodesAt-suc nodesAt-within (p .whole-records) i d h)
+        rw translation-parts
+        (Alike-trans (Alike-right (header ++ copied) (nodes ++ finish) (nodesAt bs) i length-front)
+        (Alike-trans (Alike-left nodes finish i (rw length-nodes (mul-le-mul-left recordSize h)))
+        (joined-alike nodeBytes length-nodeBytes (translated bs ρ .rows) i d h)))
 
     -- and the constraints stand behind them.
     pub constraint-alike : (i : ℕ) (d : ℕ) → i < length (constraints bs)
         → Alike (translation bs ρ) (nodesAt bs + length (translated bs ρ .rows) + i) (newConstraint (getD (constraints bs) i d)) 0
     constraint-alike i d h =
         let n : ℕ = length (translated bs ρ .rows) in
-        let e : 1 + (nodesAt bs - 1 + (n + i)) ≡ nodesAt bs + n + i = omega (arith, nodesAt-suc) in
-        rw e at (constraint-alike′ (nodesAt bs - 1) nodesAt-suc nodesAt-within (p .whole-records) i d h)
+        rw (translation-parts, add-assoc (nodesAt bs) n i)
+        (Alike-trans (Alike-right (header ++ copied) (nodes ++ finish) (nodesAt bs) (n + i) length-front)
+        (Alike-trans (Alike-right nodes finish n i length-nodes)
+        (joined-alike newConstraint length-newConstraint (constraints bs) i d h)))

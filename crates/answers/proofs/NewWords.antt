@@ -41,74 +41,77 @@ unfolding withinLimit
 withinLimit→InWord (pos n) t = omega (arith, leb→le n limit t)
 withinLimit→InWord (negsuc n) t = omega (arith, leb→le (suc n) limit t)
 
-module _ (bs : List ℕ) (ρ : Reading) (h : Translatable bs ρ) where
+module _ (bs : List ℕ) (ρ : Reading) where
+  -- the declarations of both tables
   abbrev Γ : Declarations
   Γ = declarations bs
 
+  -- its rows
   abbrev newTable : List Row
   newTable = newRows ρ Γ (rows bs)
 
-  wf : WellFormed Γ newTable
-  wf = WellFormed-newRows ρ Γ (rows bs) (h .passed .well-formed)
+  module _ (h : Translatable bs ρ) where
+    wf : WellFormed Γ newTable
+    wf = WellFormed-newRows ρ Γ (rows bs) (h .passed .well-formed)
 
-  -- ---- constants
+    -- ---- constants
 
-  -- A constant of the new table has a value within the limit, as every node has.
-  HasValue→InWord : (ts : List Tree) (r : Row) → HasValue ρ Γ (lowAssignment Γ) (lowSetting Γ) (fill ts r) → ConstantInWord r
-  unfolding fill valueI
-  HasValue→InWord ts r v z e =
-      let w : HasValue ρ Γ (lowAssignment Γ) (lowSetting Γ) (whole (constant z)) = rw e at v in
-      withinLimit→InWord z (rw (Option·some-injective z (w .0) (w .1)) (w .2))
+    -- A constant of the new table has a value within the limit, as every node has.
+    HasValue→InWord : (ts : List Tree) (r : Row) → HasValue ρ Γ (lowAssignment Γ) (lowSetting Γ) (fill ts r) → ConstantInWord r
+    unfolding fill valueI
+    HasValue→InWord ts r v z e =
+        let w : HasValue ρ Γ (lowAssignment Γ) (lowSetting Γ) (whole (constant z)) = rw e at v in
+        withinLimit→InWord z (rw (Option·some-injective z (w .0) (w .1)) (w .2))
 
-  constants-in-word : (i : ℕ) (d : Row) → i < length newTable → ConstantInWord (getD newTable i d)
-  unfolding treeAt valueI withinLimit nodeTrees
-  constants-in-word i d l =
-      let met = translation-meets-demand ρ Γ (rows bs) (h .passed .well-formed) (h .bounded) (lowAssignment Γ) (lowSetting Γ) (lowEnds-fit Γ (Passed→domains bs (h .passed))) ρ in
-      let value : HasValue ρ Γ (lowAssignment Γ) (lowSetting Γ) (treeAt (trees newTable) i) =
-      All-getD (HasValue ρ Γ (lowAssignment Γ) (lowSetting Γ)) (trees newTable) _ (met .values) (pos 0, refl, tt) i in
-      HasValue→InWord (trees newTable) (getD newTable i d) (rw (WellFormed→tree-at wf i d l) at value)
+    constants-in-word : (i : ℕ) (d : Row) → i < length newTable → ConstantInWord (getD newTable i d)
+    unfolding treeAt valueI withinLimit nodeTrees
+    constants-in-word i d l =
+        let met = translation-meets-demand ρ Γ (rows bs) (h .passed .well-formed) (h .bounded) (lowAssignment Γ) (lowSetting Γ) (lowEnds-fit Γ (Passed→domains bs (h .passed))) ρ in
+        let value : HasValue ρ Γ (lowAssignment Γ) (lowSetting Γ) (treeAt (trees newTable) i) =
+        All-getD (HasValue ρ Γ (lowAssignment Γ) (lowSetting Γ)) (trees newTable) _ (met .values) (pos 0, refl, tt) i in
+        HasValue→InWord (trees newTable) (getD newTable i d) (rw (WellFormed→tree-at wf i d l) at value)
 
-  -- ---- how many
+    -- ---- how many
 
-  pub few-new-records : newCount bs ρ ≤ 5_000
-  few-new-records =
-      rw (recordCount-translation bs ρ (h .passed)) at (few-records (translation bs ρ) (rw (length-translation bs ρ (h .passed)) (h .few-bytes)))
+    pub few-new-records : newCount bs ρ ≤ 5_000
+    few-new-records =
+        rw (recordCount-translation bs ρ (h .passed)) at (few-records (translation bs ρ) (rw (length-translation bs ρ (h .passed)) (h .few-bytes)))
 
-  countable : (i : ℕ) → i < length newTable → Countable Γ (take i newTable)
-  unfolding newCount translated
-  countable i l =
-      record {
-        variables = rw length-variables (omega (arith, h .passed .few-variables));
-        slots = rw length-slots (omega (arith, h .passed .few-slots));
-        arrays = rw length-arrays (omega (arith, h .passed .few-arrays));
-        nodes = rw (length-take-le i newTable (omega arith)) (omega (arith, few-new-records));
-      }
+    countable : (i : ℕ) → i < length newTable → Countable Γ (take i newTable)
+    unfolding newCount translated
+    countable i l =
+        record {
+          variables = rw length-variables (omega (arith, h .passed .few-variables));
+          slots = rw length-slots (omega (arith, h .passed .few-slots));
+          arrays = rw length-arrays (omega (arith, h .passed .few-arrays));
+          nodes = rw (length-take-le i newTable (omega arith)) (omega (arith, few-new-records));
+        }
 
-  -- P of a constraint is a node of the new table.
-  pub P-of-constraint : (k : ℕ) → IsNode (rows bs) boolean k → IsNode newTable boolean (firstOf ρ Γ (rows bs) k)
-  P-of-constraint k n = logical-companions ρ Γ (rows bs) (h .passed .well-formed) k n .P-node
+    -- P of a constraint is a node of the new table.
+    pub P-of-constraint : (k : ℕ) → IsNode (rows bs) boolean k → IsNode newTable boolean (firstOf ρ Γ (rows bs) k)
+    P-of-constraint k n = logical-companions ρ Γ (rows bs) (h .passed .well-formed) k n .P-node
 
-  -- ---- the records
+    -- ---- the records
 
-  -- The header has the new count.
-  pub header-is : RecordIs (translation bs ρ) 0 HD 1 (pos (newCount bs ρ)) (pos 0)
-  header-is = Alike→RecordIs (header-alike bs ρ (h .passed)) (recordBytes-RecordIs HD 1 (pos (newCount bs ρ)) (pos 0) (omega (arith, few-new-records)) (omega arith))
+    -- The header has the new count.
+    pub header-is : RecordIs (translation bs ρ) 0 HD 1 (pos (newCount bs ρ)) (pos 0)
+    header-is = Alike→RecordIs (header-alike bs ρ (h .passed)) (recordBytes-RecordIs HD 1 (pos (newCount bs ρ)) (pos 0) (omega (arith, few-new-records)) (omega arith))
 
-  -- Each node is the record of its row.
-  pub node-is : (i : ℕ) (d : Row) → i < length (translated bs ρ .rows)
-      → (let r : Row = getD (translated bs ρ .rows) i d in RecordIs (translation bs ρ) (nodesAt bs + i) ND (numberOf r) (xOf r) (yOf r))
-  unfolding translated
-  node-is i d l =
-      let r : Row = getD newTable i d in
-      let w = RowFits→InWord Γ (take i newTable) (countable i l) r (RowsFit-at Γ [] newTable (wf .rows-fit) i d l) (constants-in-word i d l) in
-      Alike→RecordIs (node-alike bs ρ (h .passed) i d l) (rw (nodeBytes-is r) (recordBytes-RecordIs ND (numberOf r) (xOf r) (yOf r) (w .0) (w .1)))
+    -- Each node is the record of its row.
+    pub node-is : (i : ℕ) (d : Row) → i < length (translated bs ρ .rows)
+        → (let r : Row = getD (translated bs ρ .rows) i d in RecordIs (translation bs ρ) (nodesAt bs + i) ND (numberOf r) (xOf r) (yOf r))
+    unfolding translated
+    node-is i d l =
+        let r : Row = getD newTable i d in
+        let w = RowFits→InWord Γ (take i newTable) (countable i l) r (RowsFit-at Γ [] newTable (wf .rows-fit) i d l) (constants-in-word i d l) in
+        Alike→RecordIs (node-alike bs ρ (h .passed) i d l) (rw (nodeBytes-is r) (recordBytes-RecordIs ND (numberOf r) (xOf r) (yOf r) (w .0) (w .1)))
 
-  -- Each constraint names P of its node.
-  pub constraint-is : (i : ℕ) → i < length (constraints bs)
-      → RecordIs (translation bs ρ) (nodesAt bs + length (translated bs ρ .rows) + i) CN 0 (pos (getD (translated bs ρ .firsts) (getD (constraints bs) i 0) 0)) (pos 0)
-  unfolding translated newCount
-  constraint-is i l =
-      let k : ℕ = getD (constraints bs) i 0 in
-      let n = P-of-constraint k (All-lookup (IsNode (rows bs) boolean) (constraints bs) 0 (h .passed .boolean-constraints) i l) in
-      Alike→RecordIs (constraint-alike bs ρ (h .passed) i 0 l)
-      (recordBytes-RecordIs CN 0 (pos (firstOf ρ Γ (rows bs) k)) (pos 0) (omega (arith, n .earlier, few-new-records)) (omega arith))
+    -- Each constraint names P of its node.
+    pub constraint-is : (i : ℕ) → i < length (constraints bs)
+        → RecordIs (translation bs ρ) (nodesAt bs + length (translated bs ρ .rows) + i) CN 0 (pos (getD (translated bs ρ .firsts) (getD (constraints bs) i 0) 0)) (pos 0)
+    unfolding translated newCount
+    constraint-is i l =
+        let k : ℕ = getD (constraints bs) i 0 in
+        let n = P-of-constraint k (All-lookup (IsNode (rows bs) boolean) (constraints bs) 0 (h .passed .boolean-constraints) i l) in
+        Alike→RecordIs (constraint-alike bs ρ (h .passed) i 0 l)
+        (recordBytes-RecordIs CN 0 (pos (firstOf ρ Γ (rows bs) k)) (pos 0) (omega (arith, n .earlier, few-new-records)) (omega arith))

@@ -25,11 +25,12 @@ use Rattle.answers.specs.Answers.{boundsFault, newCount, roomFault, tran
 use Rattle.answers.proofs.Faults.{none-orElse, none-unless, none-cond, none-firstFault}
 use Rattle.answers.proofs.Listed.{All-at}
 use Rattle.answers.proofs.Declared.{length-variables, variableAt-declarations}
-use Rattle.answers.proofs.Passed.{Passed, checkFault≡none→Passed}
+use Rattle.answers.proofs.Passed.{Passed, checkFault≡none→Passed, SectionsOrdered, Passed→SectionsOrdered}
 
 -- The table passes the check, its bounds hold, and its translation is not too long.
 pub record Translatable (bs : List ℕ) (ρ : Reading) : Type 0 where
   pub passed : Passed bs
+  pub sections : SectionsOrdered bs
   pub bounded : Bounded (declarations bs) (nodeTrees bs)
   pub few-bytes : recordSize * newCount bs ρ ≤ mostBytes
 
@@ -53,7 +54,8 @@ module _ (bs : List ℕ) where
     -- A table with none of the three faults is translated,
     pub none→Translatable : (room : ℕ) → checkFault bs ≡ none → boundsFault bs ≡ none → roomFault bs ρ room ≡ none → Translatable bs ρ
     none→Translatable room c b r =
-        record { passed = checkFault≡none→Passed bs c; bounded = boundsFault→Bounded b; few-bytes = roomFault→few room r }
+        let passed : Passed bs = checkFault≡none→Passed bs c in
+        record { passed = passed; sections = Passed→SectionsOrdered bs passed; bounded = boundsFault→Bounded b; few-bytes = roomFault→few room r }
 
     -- and so is one that `translate` does not refuse.
     pub translationFault→Translatable : (room : ℕ) → translationFault bs ρ room ≡ none → Translatable bs ρ

@@ -2,7 +2,7 @@
 -- Assumes nothing.
 use mathlib.Core.Path.{_≡_, sym, ap, _∙_}
 use Prim.Native.Nat.{ℕ, suc, _+_, _*_, _≤_, _<_}
-use native.Mathlib.Nat.{add-zero, add-assoc, mul-suc, mul-add, mul-le-mul-left}
+use native.Mathlib.Nat.{add-zero, add-assoc, mul-suc, mul-add}
 use native.Mathlib.Omega.{arith}
 use mathlib.Core.List.{List, _++_}
 use lib.ListN.{length, take, drop, List·getD-append}
@@ -18,9 +18,7 @@ unfolding recordSize
 pub record Alike (bs : List ℕ) (k : ℕ) (cs : List ℕ) (l : ℕ) : Type 0 where
   pub bytes : (j : ℕ) → j < recordSize → byteAt bs (recordSize * k + j) ≡ byteAt cs (recordSize * l + j)
 
-pub Alike-sym : {bs cs : List ℕ} {k l : ℕ} → Alike bs k cs l → Alike cs l bs k
-Alike-sym h = record { bytes = λ j b. sym (h .bytes j b) }
-
+-- What is alike to something alike is alike.
 pub Alike-trans : {bs cs ds : List ℕ} {j k l : ℕ} → Alike bs j cs k → Alike cs k ds l → Alike bs j ds l
 Alike-trans h g = record { bytes = λ i b. h .bytes i b ∙ g .bytes i b }
 
@@ -44,24 +42,29 @@ module _ {bs cs : List ℕ} {k l : ℕ} (h : Alike bs k cs l) where
         h .bytes (j + 3) (omega arith),
       )
 
+  -- The mark of the record.
   pub marked-alike : (m : Mark) → marked bs m k ≡ marked cs m l
   unfolding marked
   marked-alike m =
       let first : byteAt bs (recordSize * k) ≡ byteAt cs (recordSize * l) = simp add-zero at (h .bytes 0 (omega (arith, 11<recordSize))) in
       rw (first, h .bytes 1 (omega (arith, 11<recordSize)))
 
+  -- The kind of the record.
   pub kindAt-alike : kindAt bs k ≡ kindAt cs l
   unfolding kindAt
   kindAt-alike = h .bytes 2 (omega (arith, 11<recordSize))
 
+  -- The aux of the record.
   pub auxAt-alike : auxAt bs k ≡ auxAt cs l
   unfolding auxAt
   auxAt-alike = h .bytes 3 (omega (arith, 11<recordSize))
 
+  -- The x of the record.
   pub xAt-alike : xAt bs k ≡ xAt cs l
   unfolding xAt
   xAt-alike = ap signed (word-alike 4 (omega (arith, 11<recordSize)))
 
+  -- The y of the record.
   pub yAt-alike : yAt bs k ≡ yAt cs l
   unfolding yAt
   yAt-alike = ap signed (word-alike 8 (omega (arith, 11<recordSize)))
@@ -84,17 +87,14 @@ module _ (xs ys : List ℕ) where
 
 module _ (bs : List ℕ) where
   -- The records that are kept of a byte string,
-  pub Alike-take : (n k : ℕ) → k < n → Alike (take (recordSize * n) bs) k bs k
+  pub Alike-take : (n k : ℕ) → recordSize * suc k ≤ n → Alike (take n bs) k bs k
   unfolding byteAt
-  Alike-take n k h = record { bytes = λ j b. getD-take (recordSize * n) bs (recordSize * k + j) 0 (within j b) }
-    where
-      within : (j : ℕ) → j < recordSize → recordSize * k + j < recordSize * n
-      within j b = omega (arith, b, rw (mul-suc recordSize k) at (mul-le-mul-left recordSize h))
+  Alike-take n k h = record { bytes = λ j b. getD-take n bs (recordSize * k + j) 0 (omega (arith, b, rw mul-suc at h)) }
 
   -- and those that are left when some are dropped.
-  pub Alike-drop : (n k : ℕ) → Alike (drop (recordSize * n) bs) k bs (n + k)
+  pub Alike-drop : (n d k : ℕ) → d ≡ recordSize * n → Alike (drop d bs) k bs (n + k)
   unfolding byteAt
-  Alike-drop n k = record { bytes = λ j b. getD-drop (recordSize * n) bs (recordSize * k + j) 0 ∙ ap (byteAt bs) (place j) }
+  Alike-drop n d k e = record { bytes = λ j b. getD-drop d bs (recordSize * k + j) 0 ∙ ap (byteAt bs) (place j) }
     where
-      place : (j : ℕ) → recordSize * n + (recordSize * k + j) ≡ recordSize * (n + k) + j
-      place j = rw (mul-add recordSize n k) (sym (add-assoc (recordSize * n) (recordSize * k) j))
+      place : (j : ℕ) → d + (recordSize * k + j) ≡ recordSize * (n + k) + j
+      place j = rw (mul-add recordSize n k, e) (sym (add-assoc (recordSize * n) (recordSize * k) j))

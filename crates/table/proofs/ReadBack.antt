@@ -71,8 +71,3 @@ module _ {A : Type 0} (f : A → List ℕ) where
     joined-alike (a ∷ l) (suc k) d h =
         let next : Alike (f a ++ joined l) (1 + k) (joined l) k = Alike-right (f a) (joined l) 1 k (sized a ∙ sym (mul-one recordSize)) in
         Alike-trans (rw (suc-add zero k, zero-add) at next) (joined-alike l k d (le-of-suc-le-suc h))
-
--- A record among others that reads as it is written.
-pub joined-RecordIs : {A : Type 0} (f : A → List ℕ) (sized : (a : A) → length (f a) ≡ recordSize) (l : List A) (k : ℕ) (d : A) → k < length l
-    → (m : Mark) (kind : ℕ) (x y : ℤ) → f (getD l k d) ≡ recordBytes m kind x y → InWord x → InWord y → RecordIs (joined f l) k m kind x y
-joined-RecordIs f sized l k d h m kind x y e a b = Alike→RecordIs (joined-alike f sized l k d h) (rw e (recordBytes-RecordIs m kind x y a b))
