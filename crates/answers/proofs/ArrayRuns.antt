@@ -37,12 +37,13 @@ module _ (bs : List ℕ) where
   unfolding arraysFault
   arraysFault-marked more j p t = rw (T→≡true (marked bs AR p) t, arraysFault)
 
-  -- An array and those behind it have no fault together exactly where they have none each.
+  -- An array and those behind it have no fault together where they have none each,
   ArrayPassed→none : (more j p : ℕ) → ArrayPassed j p → arraysFault bs more (suc j) (behindArray bs p) ≡ none → arraysFault bs (suc more) j p ≡ none
   ArrayPassed→none more j p a rest =
       rw (arraysFault-marked more j p (a .mark))
       (orElse-none (firstFault-none _ p 1 (λ i l. a .own)) (orElse-none (firstFault-none _ (suc p) (natAbs (yAt bs p)) (a .elements)) rest))
 
+  -- and only there.
   none→ArrayPassed : (more j p : ℕ) → T (marked bs AR p) → arraysFault bs (suc more) j p ≡ none
       → ArrayPassed j p × (arraysFault bs more (suc j) (behindArray bs p) ≡ none)
   none→ArrayPassed more j p t h =

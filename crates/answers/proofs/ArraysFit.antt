@@ -13,6 +13,7 @@ use lib.ListN.{length}
 use Rattle.numbers.specs.Limits.{mostArrays, mostElements, reach}
 use Rattle.numbers.specs.Whole.{between}
 use Rattle.numbers.proofs.Tests.{&&-fst, &&-snd}
+use Rattle.language.specs.Syntax.{Sort}
 use Rattle.rules.specs.Soundness.{All, ElementFits, ArrayFits}
 use Rattle.table.specs.Records.{EL, marked, kindAt, auxAt, xAt, yAt}
 use Rattle.answers.specs.Sections.{sortOfKind, behindArray, declarations, arrayOf}
@@ -36,6 +37,7 @@ module _ (bs : List ℕ) where
     some-element : 1 ≤ natAbs (yAt bs p)
     few-elements : natAbs (yAt bs p) ≤ mostElements
 
+  -- An AR without a fault of its own has passed its test.
   arrayFault→ArrayAllowed : (j p : ℕ) → arrayFault bs j p ≡ none → ArrayAllowed j p
   unfolding arrayFault near
   arrayFault→ArrayAllowed j p h =
@@ -64,7 +66,9 @@ module _ (bs : List ℕ) where
         some-element = rw length-listed (a .some-element);
         few = rw length-listed (a .few-elements);
         typed = All-listed (ElementFits (declarations bs) (sortOfKind (kindAt bs p))) (natAbs (yAt bs p)) _
-            (λ i l. ElementPassed→ElementFits bs (sortOfKind (kindAt bs p)) (suc p + i) (none→ElementPassed bs (sortOfKind (kindAt bs p)) (suc p + i) (h .elements i l)));
+            (λ i l.
+            let t : Sort = sortOfKind (kindAt bs p) in
+            ElementPassed→ElementFits bs t (suc p + i) (none→ElementPassed bs t (suc p + i) (h .elements i l)));
       }
 
   -- So are all arrays that have passed.
@@ -86,7 +90,8 @@ module _ (bs : List ℕ) where
     ArrayPassed→within j p h =
         let a = arrayFault→ArrayAllowed j p (h .own) in
         let last : ℕ = natAbs (yAt bs p) - 1 in
-        omega (arith, a .some-element, within (suc p + last) (none→ElementPassed bs (sortOfKind (kindAt bs p)) (suc p + last) (h .elements last (omega (arith, a .some-element))) .mark))
+        let passed = none→ElementPassed bs (sortOfKind (kindAt bs p)) (suc p + last) (h .elements last (omega (arith, a .some-element))) in
+        omega (arith, a .some-element, within (suc p + last) (passed .mark))
 
     -- So do all arrays that have passed, if the first does.
     pub ArraysPassed→within : (j p : ℕ) (ps : List ℕ) (e : ℕ) → p ≤ n → ArraysPassed bs j p ps e → e ≤ n

@@ -37,7 +37,7 @@ pub record ConstraintPassed (bs : List ℕ) (p : ℕ) : Type 0 where
   pub closed : ClosedNode bs (natAbs (xAt bs p))
 
 module _ (bs : List ℕ) where
-  -- The test for free slots passes exactly where none of them is free.
+  -- Where the test for free slots passes, none of them is free,
   closedIn→free : (k n : ℕ) → T (closedIn bs k n) → (t : ℕ) → t < n → freeIn t (treeAt (nodeTrees bs) k) ≡ false
   unfolding closedIn
   closedIn→free k zero h t l = absurd (not-suc-le-zero l)
@@ -50,6 +50,7 @@ module _ (bs : List ℕ) where
           let e : t ≡ n = omega arith in
           rw e (Tnot→≡false (freeIn n (treeAt (nodeTrees bs) k)) (&&-snd (closedIn bs k n) (not (freeIn n (treeAt (nodeTrees bs) k))) h))
 
+  -- and where none is, it passes.
   free→closedIn : (k n : ℕ) → ((t : ℕ) → t < n → freeIn t (treeAt (nodeTrees bs) k) ≡ false) → T (closedIn bs k n)
   unfolding closedIn
   free→closedIn k zero h = tt

@@ -21,40 +21,49 @@ getD-map f (x ∷ l) d e (suc k) h = getD-map f l d e k (le-of-suc-le-suc h)
 module _ (bs : List ℕ) where
   -- ---- how many
 
+  -- variables,
   pub length-variables : length (declarations bs .variables) ≡ variableCount bs
   unfolding declarations
   length-variables = length-listed (variableCount bs) _
 
+  -- slots,
   pub length-slots : length (declarations bs .slots) ≡ slotCount bs
   unfolding declarations
   length-slots = length-listed (slotCount bs) _
 
+  -- arrays,
   pub length-arrays : length (declarations bs .arrays) ≡ length (arrayRecords bs)
   unfolding declarations
   length-arrays = length-map (arrayRecords bs) (arrayOf bs)
 
+  -- rows,
   pub length-rows : length (rows bs) ≡ nodeCount bs
   unfolding rows
   length-rows = length-listed (nodeCount bs) _
 
+  -- and constraints there are.
   pub length-constraints : length (constraints bs) ≡ constraintCount bs
   unfolding constraints
   length-constraints = length-listed (constraintCount bs) _
 
   -- ---- which
 
+  -- The variable of a number,
   pub variableAt-declarations : (v : ℕ) → v < variableCount bs → variableAt (declarations bs) v ≡ variableOf bs (variablesAt bs + v)
   unfolding declarations variableAt
   variableAt-declarations v h = getD-listed (variableCount bs) _ _ v h
 
+  -- the slot,
   pub slotAt-declarations : (s : ℕ) → s < slotCount bs → slotAt (declarations bs) s ≡ slotOf bs (slotsAt bs + s)
   unfolding declarations slotAt
   slotAt-declarations s h = getD-listed (slotCount bs) _ _ s h
 
+  -- the array,
   pub arrayAt-declarations : (A : ℕ) → A < length (arrayRecords bs) → arrayAt (declarations bs) A ≡ arrayOf bs (getD (arrayRecords bs) A 0)
   unfolding declarations arrayAt
   arrayAt-declarations A h = getD-map (arrayOf bs) (arrayRecords bs) 0 _ A h
 
+  -- and the row of a number.
   pub getD-rows : (k : ℕ) (d : Row) → k < nodeCount bs → getD (rows bs) k d ≡ rowOf bs (nodesAt bs + k)
   unfolding rows
   getD-rows k d h = getD-listed (nodeCount bs) _ d k h

@@ -143,10 +143,11 @@ module _ (bs : List ℕ) (ρ : Reading) where
             rw (calmB-agree ρ′ Γ α P unset (lowSetting Γ) (closed-agree Γ P new-free))
             (calm-P ρ ρ′ Γ (rows bs) (h .passed .well-formed) (h .bounded) α (lowSetting Γ) fits k n)
 
-    -- Each constraint of a table that is translated is a Boolean node with no free slot.
+    -- Each constraint of a table that is translated is a Boolean node,
     constraint-node : (i : ℕ) → i < length (constraints bs) → IsNode (rows bs) boolean (getD (constraints bs) i 0)
     constraint-node = All-lookup (IsNode (rows bs) boolean) (constraints bs) 0 (h .passed .boolean-constraints)
 
+    -- and no slot is free in it.
     constraint-closed : (i : ℕ) → i < length (constraints bs) → ClosedNode bs (getD (constraints bs) i 0)
     constraint-closed = All-lookup (ClosedNode bs) (constraints bs) 0 (h .passed .closed-constraints)
 

@@ -34,15 +34,17 @@ unfolding unless
 none-unless n true h = tt
 none-unless n false h = absurd (Option·some-ne-none n h)
 
--- A choice that gives no fault was made by the test that has none.
+-- Where a choice between no fault and one gives none, the test has passed,
 pub none-cond : (b : Bool) (r : Refusal) → cond b none (some r) ≡ none → T b
 none-cond true r h = tt
 none-cond false r h = absurd (Option·some-ne-none r h)
 
+-- or, the other way round, has not.
 pub none-cond-not : (b : Bool) (r : Refusal) → cond b (some r) none ≡ none → T (not b)
 none-cond-not true r h = absurd (Option·some-ne-none r h)
 none-cond-not false r h = tt
 
+-- Where a choice between a fault and another gives none, the first is none.
 pub none-cond-fault : (b : Bool) (o : Option Refusal) (r : Refusal) → cond b o (some r) ≡ none → o ≡ none
 none-cond-fault true o r h = h
 none-cond-fault false o r h = absurd (Option·some-ne-none r h)

@@ -34,6 +34,7 @@ sameSort→≡ boolean integer h = absurd h
 sameSort→≡ integer boolean h = absurd h
 sameSort→≡ integer integer h = refl
 
+-- The two types differ,
 boolean≢integer : ¬ (boolean ≡ integer)
 unfolding sameSort
 boolean≢integer e = subst (λ s. T (sameSort boolean s)) e tt

@@ -39,7 +39,7 @@ module _ (bs : List ℕ) (ρ : Reading) where
     variableSort-new : (z : ℤ) → natAbs z < variableCount bs → variableSort new z ≡ variableSort bs z
     unfolding variableSort variablesAt
     variableSort-new z l =
-        ap sortOfKind (kindAt-alike (copied-alike bs ρ (h .passed) (1 + natAbs z) (omega arith) (omega (arith, h .sections .slots-after, h .sections .arrays-after, h .sections .nodes-after))))
+        ap sortOfKind (kindAt-alike (copied-alike bs ρ (h .passed) (1 + natAbs z) (omega arith) (omega (arith, h .sections))))
 
     -- An element keeps its type.
     typed-kept : (t : Sort) (b : Bool) (z : ℤ) → T (b || names (variableCount bs) z) → T (b || sameSort (variableSort bs z) t) → T (b || sameSort (variableSort new z) t)
@@ -77,6 +77,7 @@ module _ (bs : List ℕ) (ρ : Reading) where
     unfolding behindArray
     behindArray-new p l b = rw (yAt-alike (copied-alike bs ρ (h .passed) p l (omega arith)))
 
+    -- No array ends at the first record.
     1≤behindArray : (p : ℕ) → 1 ≤ behindArray bs p
     unfolding behindArray
     1≤behindArray p = omega arith
@@ -94,9 +95,13 @@ module _ (bs : List ℕ) (ρ : Reading) where
 
     -- ---- where they stand
 
+    -- The arrays of the old table are those of the new one,
     pub arrays-run-new : ArraysPassed new 0 (arraysAt new) (arrayRecords bs) (nodesAt bs)
-    arrays-run-new = rw (arraysAt-new bs ρ h) (arrays-kept 0 (arraysAt bs) (arrayRecords bs) (nodesAt bs) (omega (arith, h .sections .slots-after, h .sections .arrays-after)) (omega arith) (h .passed .arrays-run))
+    arrays-run-new =
+        rw (arraysAt-new bs ρ h)
+        (arrays-kept 0 (arraysAt bs) (arrayRecords bs) (nodesAt bs) (omega (arith, h .sections)) (omega arith) (h .passed .arrays-run))
 
+    -- so the walk over them finds the same,
     arrays-walk-new : (arraysFrom new (recordCount new) (arraysAt new) ≡ arrayRecords bs) × (arraysEnd new (recordCount new) (arraysAt new) ≡ nodesAt bs)
         × (arraysFault new (recordCount new) 0 (arraysAt new) ≡ none)
     unfolding newCount
@@ -104,13 +109,16 @@ module _ (bs : List ℕ) (ρ : Reading) where
         ArraysPassed→walk new 0 (arraysAt new) (arrayRecords bs) (nodesAt bs) (recordCount new) arrays-run-new
         (rw (recordCount-translation bs ρ (h .passed)) (omega (arith, ArraysPassed-length bs 0 (arraysAt bs) (arrayRecords bs) (h .passed .arrays-run))))
 
+    -- the same records,
     pub arrayRecords-new : arrayRecords new ≡ arrayRecords bs
     unfolding arrayRecords
     arrayRecords-new = arrays-walk-new .0
 
+    -- the same end, where the nodes begin,
     pub nodesAt-new : nodesAt new ≡ nodesAt bs
     unfolding nodesAt
     nodesAt-new = arrays-walk-new .1
 
+    -- and no fault.
     pub arraysFault-new : arraysFault new (recordCount new) 0 (arraysAt new) ≡ none
     arraysFault-new = arrays-walk-new .2

@@ -54,7 +54,7 @@ module _ (bs : List ℕ) (ρ : Reading) where
     length-allowed : LengthAllowed new
     unfolding newCount
     length-allowed =
-        let some-record : 1 ≤ newCount bs ρ = omega (arith, h .sections .slots-after, h .sections .arrays-after, h .sections .nodes-after) in
+        let some-record : 1 ≤ newCount bs ρ = omega (arith, h .sections) in
         let size : length new ≡ recordSize * newCount bs ρ = length-translation bs ρ (h .passed) in
         record {
           some-bytes = rw size (rw mul-one at (mul-le-mul-left recordSize some-record));
@@ -71,18 +71,19 @@ module _ (bs : List ℕ) (ρ : Reading) where
         (unless-none 3 _
         (rw (r .kind-is, r .aux-is, r .x-is, r .y-is, recordCount-translation bs ρ (h .passed)) (&&-intro (eqZ (pos (newCount bs ρ)) (pos (newCount bs ρ))) _ (eqZ-refl (pos (newCount bs ρ))) (eqZ-refl (pos 0)))))
 
-    -- Its variables and slots are copied.
+    -- Its variables are copied,
     variables-none : (i : ℕ) → i < variableCount new → variableFault new i (variablesAt new + i) ≡ none
     unfolding variablesAt
     variables-none i l =
         let b : i < variableCount bs = rw (variableCount-new bs ρ h) at l in
-        variableFault-alike (copied-alike bs ρ (h .passed) (1 + i) (omega arith) (omega (arith, h .sections .slots-after, h .sections .arrays-after, h .sections .nodes-after))) i ∙ h .passed .variables-passed i b
+        variableFault-alike (copied-alike bs ρ (h .passed) (1 + i) (omega arith) (omega (arith, h .sections))) i ∙ h .passed .variables-passed i b
 
+    -- and so are its slots.
     slots-none : (i : ℕ) → i < slotCount new → slotFault new i (slotsAt new + i) ≡ none
     slots-none i l =
         let b : i < slotCount bs = rw (slotCount-new bs ρ h) at l in
         rw (slotsAt-new bs ρ h)
-        (slotFault-alike (copied-alike bs ρ (h .passed) (slotsAt bs + i) (omega (arith, h .sections .slots-after)) (omega (arith, h .sections .arrays-after, h .sections .nodes-after))) i ∙ h .passed .slots-passed i b)
+        (slotFault-alike (copied-alike bs ρ (h .passed) (slotsAt bs + i) (omega (arith, h .sections)) (omega (arith, h .sections))) i ∙ h .passed .slots-passed i b)
 
     -- ---- nodes
 

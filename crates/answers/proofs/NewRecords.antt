@@ -47,16 +47,19 @@ module _ (bs : List ℕ) (ρ : Reading) where
 
   -- ---- the parts
 
-  -- the header, the copied declarations, the new nodes and the new constraints
+  -- the header,
   abbrev header : List ℕ
   header = recordBytes HD 1 (pos (newCount bs ρ)) (pos 0)
 
+  -- the copied declarations,
   abbrev copied : List ℕ
   copied = take (recordSize * nodesAt bs - recordSize) (drop recordSize bs)
 
+  -- the new nodes,
   abbrev nodes : List ℕ
   nodes = joined nodeBytes (translated bs ρ .rows)
 
+  -- and the new constraints
   abbrev finish : List ℕ
   finish = joined newConstraint (constraints bs)
 
@@ -65,12 +68,15 @@ module _ (bs : List ℕ) (ρ : Reading) where
   unfolding translation
   translation-parts = rw (newNodes-joined, newConstraints-joined, append-assoc)
 
+  -- Their sizes: the header's,
   length-header : length header ≡ recordSize
   length-header = length-recordBytes HD 1 (pos (newCount bs ρ)) (pos 0)
 
+  -- the nodes',
   length-nodes : length nodes ≡ recordSize * length (translated bs ρ .rows)
   length-nodes = length-joined nodeBytes length-nodeBytes (translated bs ρ .rows)
 
+  -- the constraints'.
   length-finish : length finish ≡ recordSize * length (constraints bs)
   length-finish = length-joined newConstraint length-newConstraint (constraints bs)
 
@@ -92,6 +98,7 @@ module _ (bs : List ℕ) (ρ : Reading) where
     length-copied : length copied ≡ recordSize * nodesAt bs - recordSize
     length-copied = length-take-le (recordSize * nodesAt bs - recordSize) (drop recordSize bs) (rw length-drop (omega (arith, size-within)))
 
+    -- Header and declarations have the size of the records before the nodes.
     length-front : length (header ++ copied) ≡ recordSize * nodesAt bs
     length-front = length-append header copied ∙ rw (length-header, length-copied) (omega (arith, size-before-nodes))
 
@@ -116,7 +123,7 @@ module _ (bs : List ℕ) (ρ : Reading) where
         (Alike-trans (Alike-left (header ++ copied) (nodes ++ finish) 0 (rw (length-front, mul-one) size-before-nodes))
         (Alike-left header copied 0 (rw (length-header, mul-one) (le-refl recordSize))))
 
-    -- the declarations are copied to the same places,
+    -- the records behind it up to the nodes are copied,
     copied-alike-suc : (k : ℕ) → suc k < nodesAt bs → Alike (translation bs ρ) (1 + k) bs (1 + k)
     copied-alike-suc k h =
         let two-more : recordSize * suc k + recordSize ≤ recordSize * nodesAt bs = rw (mul-suc recordSize (suc k)) at (mul-le-mul-left recordSize h) in
@@ -126,6 +133,7 @@ module _ (bs : List ℕ) (ρ : Reading) where
         (Alike-trans (Alike-take (drop recordSize bs) (recordSize * nodesAt bs - recordSize) k (omega arith))
         (Alike-drop bs 1 recordSize k (sym (mul-one recordSize))))))
 
+    -- so the declarations stand at the same places,
     pub copied-alike : (k : ℕ) → 1 ≤ k → k < nodesAt bs → Alike (translation bs ρ) k bs k
     copied-alike k l h = let e : 1 + (k - 1) ≡ k = omega arith in rw e at (copied-alike-suc (k - 1) (omega arith))
 

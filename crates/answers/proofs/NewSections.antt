@@ -38,7 +38,9 @@ module _ (bs : List ℕ) (ρ : Reading) where
     pub unmarked-past : (m : Mark) (k : ℕ) → newCount bs ρ ≤ k → T (not (marked new m k))
     unmarked-past m k l =
         not-T (marked new m k)
-        (λ t. omega (arith, rw (recordCount-translation bs ρ (h .passed)) at (marked→<recordCount new m k (rw (recordCount-translation bs ρ (h .passed)) (length-translation bs ρ (h .passed))) t)))
+        (λ t.
+        let count : recordCount new ≡ newCount bs ρ = recordCount-translation bs ρ (h .passed) in
+        omega (arith, count, marked→<recordCount new m k (rw count (length-translation bs ρ (h .passed))) t))
 
     -- A new node has its mark and no other.
     pub marked-node : (m : Mark) (k : ℕ) → nodesAt bs ≤ k → k < nodesAt bs + newNodeCount → marked new m k ≡ sameMark ND m
@@ -47,7 +49,8 @@ module _ (bs : List ℕ) (ρ : Reading) where
         rw e at (node-is bs ρ h (k - nodesAt bs) (truthRow true) (omega arith) .marks m)
 
     -- A new constraint has its mark and no other.
-    pub marked-constraint : (m : Mark) (k : ℕ) → nodesAt bs + newNodeCount ≤ k → k < nodesAt bs + newNodeCount + length (constraints bs) → marked new m k ≡ sameMark CN m
+    pub marked-constraint : (m : Mark) (k : ℕ) → nodesAt bs + newNodeCount ≤ k → k < nodesAt bs + newNodeCount + length (constraints bs)
+        → marked new m k ≡ sameMark CN m
     marked-constraint m k l b =
         let e : nodesAt bs + newNodeCount + (k - (nodesAt bs + newNodeCount)) ≡ k = omega arith in
         rw e at (constraint-is bs ρ h (k - (nodesAt bs + newNodeCount)) (omega arith) .marks m)
@@ -72,7 +75,8 @@ module _ (bs : List ℕ) (ρ : Reading) where
             rw e at (unmarked-behind-nodes m c)
 
     -- A record among the declarations or just behind them that has not a declaration's mark has it not in the new table.
-    pub unmarked-kept : (m : Mark) → sameMark ND m ≡ false → sameMark CN m ≡ false → (k : ℕ) → 1 ≤ k → k ≤ nodesAt bs → T (not (marked bs m k)) → T (not (marked new m k))
+    pub unmarked-kept : (m : Mark) → sameMark ND m ≡ false → sameMark CN m ≡ false → (k : ℕ) → 1 ≤ k → k ≤ nodesAt bs
+        → T (not (marked bs m k)) → T (not (marked new m k))
     unmarked-kept m n c k l b t = go (decLt k (nodesAt bs))
       where
         go : Dec (k < nodesAt bs) → T (not (marked new m k))
@@ -95,22 +99,26 @@ module _ (bs : List ℕ) (ρ : Reading) where
     unfolding endOf
     endOf-new m {p} {e} r l = Run→runEnd new m (recordCount new) r (rw (recordCount-translation bs ρ (h .passed)) (omega arith))
 
+    -- The slots begin where they began,
     pub slotsAt-new : slotsAt new ≡ slotsAt bs
     unfolding slotsAt variablesAt newCount firstLetter
     slotsAt-new =
-        endOf-new VR (Run-kept VR refl refl (omega arith) (omega (arith, h .sections .arrays-after, h .sections .nodes-after)) (h .passed .variables-run))
-        (omega (arith, h .sections .arrays-after, h .sections .nodes-after))
+        endOf-new VR (Run-kept VR refl refl (omega arith) (omega (arith, h .sections)) (h .passed .variables-run))
+        (omega (arith, h .sections))
 
+    -- and so do the arrays.
     pub arraysAt-new : arraysAt new ≡ arraysAt bs
     unfolding arraysAt newCount firstLetter
     arraysAt-new =
         rw slotsAt-new
-        (endOf-new SL (Run-kept SL refl refl (omega (arith, h .sections .slots-after)) (h .sections .nodes-after) (h .passed .slots-run)) (omega (arith, h .sections .nodes-after)))
+        (endOf-new SL (Run-kept SL refl refl (omega (arith, h .sections)) (h .sections .nodes-after) (h .passed .slots-run)) (omega (arith, h .sections)))
 
+    -- There are as many variables
     pub variableCount-new : variableCount new ≡ variableCount bs
     unfolding variableCount variablesAt
     variableCount-new = rw slotsAt-new
 
+    -- and slots as there were.
     pub slotCount-new : slotCount new ≡ slotCount bs
     unfolding slotCount
     slotCount-new = rw (slotsAt-new, arraysAt-new)

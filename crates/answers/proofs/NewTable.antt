@@ -37,6 +37,7 @@ module _ (bs : List ℕ) (ρ : Reading) where
   module _ (h : Translatable bs ρ) where
     -- ---- nodes and constraints
 
+    -- The records of the nodes are a section,
     nodes-run : Run new ND (nodesAt bs) (nodesAt bs + newNodeCount)
     unfolding firstLetter secondLetter
     nodes-run =
@@ -46,6 +47,7 @@ module _ (bs : List ℕ) (ρ : Reading) where
           behind = unmarked-behind-nodes bs ρ h ND refl;
         }
 
+    -- and so are those of the constraints, up to the end.
     constraints-run : Run new CN (nodesAt bs + newNodeCount) (newCount bs ρ)
     unfolding firstLetter secondLetter newCount
     constraints-run =
@@ -55,36 +57,42 @@ module _ (bs : List ℕ) (ρ : Reading) where
           behind = unmarked-past bs ρ h CN (newCount bs ρ) (omega arith);
         }
 
+    -- So the constraints begin behind the nodes,
     pub constraintsAt-new : constraintsAt new ≡ nodesAt bs + newNodeCount
     unfolding constraintsAt newCount
     constraintsAt-new = rw (nodesAt-new bs ρ h) (endOf-new bs ρ h ND nodes-run (omega arith))
 
+    -- nothing is left behind them,
     pub restAt-new : restAt new ≡ newCount bs ρ
     unfolding restAt
     restAt-new = rw constraintsAt-new (endOf-new bs ρ h CN constraints-run (omega arith))
 
+    -- there are as many nodes as rows of the rules,
     pub nodeCount-new : nodeCount new ≡ newNodeCount
     unfolding nodeCount
     nodeCount-new = rw (constraintsAt-new, nodesAt-new bs ρ h) (omega arith)
 
+    -- and as many constraints as there were.
     pub constraintCount-new : constraintCount new ≡ length (constraints bs)
     unfolding constraintCount newCount
     constraintCount-new = rw (restAt-new, constraintsAt-new) (omega arith)
 
     -- ---- declarations
 
+    -- The variables are the same,
     variables-new : listed (variableCount new) (λ i. variableOf new (variablesAt new + i)) ≡ listed (variableCount bs) (λ i. variableOf bs (variablesAt bs + i))
     unfolding variablesAt
     variables-new =
         rw (variableCount-new bs ρ h)
         (listed-agree (variableCount bs) _ _
-        (λ k l. variableOf-alike (copied-alike bs ρ (h .passed) (1 + k) (omega arith) (omega (arith, h .sections .slots-after, h .sections .arrays-after, h .sections .nodes-after)))))
+        (λ k l. variableOf-alike (copied-alike bs ρ (h .passed) (1 + k) (omega arith) (omega (arith, h .sections)))))
 
+    -- and the slots.
     slots-new : listed (slotCount new) (λ i. slotOf new (slotsAt new + i)) ≡ listed (slotCount bs) (λ i. slotOf bs (slotsAt bs + i))
     slots-new =
         rw (slotCount-new bs ρ h, slotsAt-new bs ρ h)
         (listed-agree (slotCount bs) _ _
-        (λ k l. slotOf-alike (copied-alike bs ρ (h .passed) (slotsAt bs + k) (omega (arith, h .sections .slots-after)) (omega (arith, h .sections .arrays-after, h .sections .nodes-after)))))
+        (λ k l. slotOf-alike (copied-alike bs ρ (h .passed) (slotsAt bs + k) (omega (arith, h .sections)) (omega (arith, h .sections)))))
 
     -- An array whose records are copied is the same array.
     arrayOf-new : (p : ℕ) → 1 ≤ p → behindArray bs p ≤ nodesAt bs → arrayOf new p ≡ arrayOf bs p
@@ -99,6 +107,7 @@ module _ (bs : List ℕ) (ρ : Reading) where
               (λ i c. elementOf-alike (copied-alike bs ρ (h .passed) (suc p + i) (omega arith) (omega arith))),
         )
 
+    -- So are all arrays,
     arrays-same : (j p : ℕ) (ps : List ℕ) (e : ℕ) → 1 ≤ p → e ≤ nodesAt bs → ArraysPassed bs j p ps e → map (arrayOf new) ps ≡ map (arrayOf bs) ps
     unfolding behindArray
     arrays-same j p [] e l b a = refl
@@ -106,10 +115,11 @@ module _ (bs : List ℕ) (ρ : Reading) where
         let behind : behindArray bs p ≤ nodesAt bs = omega (arith, ArraysPassed-ordered bs (suc j) (behindArray bs p) ps (a .2)) in
         rw (a .0, arrayOf-new p l behind, arrays-same (suc j) (behindArray bs p) ps e (omega arith) b (a .2))
 
+    -- and there are no others.
     arrays-new : map (arrayOf new) (arrayRecords new) ≡ map (arrayOf bs) (arrayRecords bs)
     arrays-new =
         rw (arrayRecords-new bs ρ h)
-        (arrays-same 0 (arraysAt bs) (arrayRecords bs) (nodesAt bs) (omega (arith, h .sections .slots-after, h .sections .arrays-after)) (omega arith) (h .passed .arrays-run))
+        (arrays-same 0 (arraysAt bs) (arrayRecords bs) (nodesAt bs) (omega (arith, h .sections)) (omega arith) (h .passed .arrays-run))
 
     -- "VR, SL, AR and EL are copied": the translation declares the same.
     pub declarations-new : declarations new ≡ declarations bs
@@ -123,7 +133,9 @@ module _ (bs : List ℕ) (ρ : Reading) where
     unfolding rows
     rows-new =
         listed-≡ (nodeCount new) _ (translated bs ρ .rows) (truthRow true) (sym nodeCount-new)
-        (λ k l. rw (nodesAt-new bs ρ h) (rowOf-RecordIs new (nodesAt bs + k) (getD (translated bs ρ .rows) k (truthRow true)) (node-is bs ρ h k (truthRow true) (rw nodeCount-new at l))))
+        (λ k l.
+        rw (nodesAt-new bs ρ h)
+        (rowOf-RecordIs new (nodesAt bs + k) (getD (translated bs ρ .rows) k (truthRow true)) (node-is bs ρ h k (truthRow true) (rw nodeCount-new at l))))
 
     -- "Each CN becomes P of its node."
     pub constraints-new : constraints new ≡ map (λ k. getD (translated bs ρ .firsts) k 0) (constraints bs)

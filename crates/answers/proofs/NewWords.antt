@@ -51,6 +51,7 @@ module _ (bs : List ℕ) (ρ : Reading) where
   newTable = newRows ρ Γ (rows bs)
 
   module _ (h : Translatable bs ρ) where
+    -- The new table is well formed.
     wf : WellFormed Γ newTable
     wf = WellFormed-newRows ρ Γ (rows bs) (h .passed .well-formed)
 
@@ -63,6 +64,7 @@ module _ (bs : List ℕ) (ρ : Reading) where
         let w : HasValue ρ Γ (lowAssignment Γ) (lowSetting Γ) (whole (constant z)) = rw e at v in
         withinLimit→InWord z (rw (Option·some-injective z (w .0) (w .1)) (w .2))
 
+    -- So every constant of the new table has 32 bits.
     constants-in-word : (i : ℕ) (d : Row) → i < length newTable → ConstantInWord (getD newTable i d)
     unfolding treeAt valueI withinLimit nodeTrees
     constants-in-word i d l =
@@ -73,10 +75,12 @@ module _ (bs : List ℕ) (ρ : Reading) where
 
     -- ---- how many
 
+    -- The new table has not too many records,
     pub few-new-records : newCount bs ρ ≤ 5_000
     few-new-records =
         rw (recordCount-translation bs ρ (h .passed)) at (few-records (translation bs ρ) (rw (length-translation bs ρ (h .passed)) (h .few-bytes)))
 
+    -- and what its rows name can be counted in 31 bits.
     countable : (i : ℕ) → i < length newTable → Countable Γ (take i newTable)
     unfolding newCount translated
     countable i l =

@@ -16,7 +16,7 @@ use Rattle.answers.specs.Sections.{variablesAt, slotsAt, arraysAt, nodes
 use Rattle.answers.specs.Check.{firstFault, headerFault, variableFault, slotFault, arraysFault, nodeFault, constraintFault, restFault, lengthAllowed, lengthFault, checkFault}
 use Rattle.answers.proofs.Faults.{orElse-none, none-orElse, none-cond, none-cond-not, firstFault-none, none-firstFault}
 
--- a length that is "no multiple" of nothing: neither too short nor too long, in whole records
+-- a length that is allowed: neither too short nor too long, in whole records
 pub record LengthAllowed (bs : List ℕ) : Type 0 where
   pub some-bytes : recordSize ≤ length bs
   pub few-bytes : length bs ≤ mostBytes
@@ -34,7 +34,7 @@ pub record NoFaults (bs : List ℕ) : Type 0 where
   pub no-rest : recordCount bs ≤ restAt bs
 
 module _ (bs : List ℕ) where
-  -- What the test of the length says.
+  -- A length without a fault is allowed,
   lengthFault→LengthAllowed : lengthFault bs ≡ none → LengthAllowed bs
   unfolding lengthFault lengthAllowed
   lengthFault→LengthAllowed h =
@@ -48,6 +48,7 @@ module _ (bs : List ℕ) where
         whole = eqb→eq (length bs % recordSize) 0 (&&-snd (a && b) c all);
       }
 
+  -- and a length that is allowed has no fault.
   LengthAllowed→lengthFault : LengthAllowed bs → lengthFault bs ≡ none
   unfolding lengthFault lengthAllowed
   LengthAllowed→lengthFault h =

@@ -30,10 +30,10 @@ pub record NodePassed (bs : List ℕ) (n p : ℕ) : Type 0 where
   pub y-fits : FieldFits (declarations bs) (rowsBelow bs n) (kind .fieldY) (yAt bs p)
 
 module _ (bs : List ℕ) (n p : ℕ) where
-  -- A node of a kind that exists has no fault exactly where its fields fit.
-  none→NodePassed′ : (k : Kind) → kindOf (kindAt bs p) ≡ some k → kindFault bs n k p ≡ none → NodePassed bs n p
+  -- A node of a kind that exists and without a fault has passed.
+  kindFault-none→NodePassed : (k : Kind) → kindOf (kindAt bs p) ≡ some k → kindFault bs n k p ≡ none → NodePassed bs n p
   unfolding kindFault
-  none→NodePassed′ k e h =
+  kindFault-none→NodePassed k e h =
       let X : Field = k .fieldX in
       let Y : Field = k .fieldY in
       let x : ℤ = xAt bs p in
@@ -54,6 +54,7 @@ module _ (bs : List ℕ) (n p : ℕ) where
             (&&-snd (fieldNames bs n X x) (fieldNames bs n Y y) named) (&&-snd (fieldTyped bs X x) (fieldTyped bs Y y) typed);
       }
 
+  -- So a node without a fault has passed,
   pub none→NodePassed : nodeFault bs n p ≡ none → NodePassed bs n p
   unfolding nodeFault
   none→NodePassed = go (kindOf (kindAt bs p)) refl
@@ -61,8 +62,9 @@ module _ (bs : List ℕ) (n p : ℕ) where
       go : (o : Option Kind) → kindOf (kindAt bs p) ≡ o → _≡_ {A = Option ℕ} (elim o [ none ↦ some 3 | some k ↦ kindFault bs n k p ]) none
           → NodePassed bs n p
       go none e h = absurd (Option·some-ne-none 3 h)
-      go (some k) e h = none→NodePassed′ k e h
+      go (some k) e h = kindFault-none→NodePassed k e h
 
+  -- and one that has passed has no fault.
   pub NodePassed→none : NodePassed bs n p → nodeFault bs n p ≡ none
   unfolding nodeFault kindFault
   NodePassed→none h =

@@ -97,6 +97,7 @@ module _ (bs : List ℕ) where
   -- ---- lengths and sections
 
   module _ (records : length bs ≡ recordSize * recordCount bs) where
+    -- A mark stands within the table.
     marks-within : (m : Mark) (k : ℕ) → T (marked bs m k) → k < recordCount bs
     marks-within m k t = marked→<recordCount bs m k records t
 
@@ -187,6 +188,7 @@ pub record SectionsOrdered (bs : List ℕ) : Type 0 where
   pub constraints-after : constraintsAt bs ≡ nodesAt bs + nodeCount bs
   pub records-counted : recordCount bs ≡ constraintsAt bs + constraintCount bs
 
+-- The sections of a table that has passed stand so.
 pub Passed→SectionsOrdered : (bs : List ℕ) → Passed bs → SectionsOrdered bs
 unfolding variablesAt variableCount slotCount nodeCount constraintCount
 Passed→SectionsOrdered bs p =

@@ -22,6 +22,7 @@ use Rattle.answers.proofs.NodesFit.{NodePassed}
 
 -- ---- what is written
 
+-- a row's kind, x and y
 abbrev pub numberOf : Row → ℕ
 numberOf (constantRow z) = 1
 numberOf (truthRow b) = 2
@@ -96,8 +97,9 @@ nodeBytes-is (negationRow a) = refl
 nodeBytes-is (compareRow c a b) = refl
 nodeBytes-is (quantifyRow q s a) = refl
 
--- ---- the kinds of the operators
+-- ---- the kinds of the operators: each kind's entry in the table
 
+-- arithmetic,
 kindOf-arithmetic : (op : Arithmetic) → kindOf (arithmeticKind op) ≡ two integer integer (arithRow op)
 unfolding kindOf kinds arithmeticKind
 kindOf-arithmetic plus = refl
@@ -106,11 +108,13 @@ kindOf-arithmetic times = refl
 kindOf-arithmetic least = refl
 kindOf-arithmetic most = refl
 
+-- div and mod,
 kindOf-division : (op : Division) → kindOf (divisionKind op) ≡ two integer integer (divideRow op)
 unfolding kindOf kinds divisionKind
 kindOf-division quot = refl
 kindOf-division rem = refl
 
+-- connectives,
 kindOf-connective : (c : Connective) → kindOf (connectiveKind c) ≡ two boolean boolean (connectRow c)
 unfolding kindOf kinds connectiveKind
 kindOf-connective conj = refl
@@ -118,6 +122,7 @@ kindOf-connective disj = refl
 kindOf-connective implies = refl
 kindOf-connective iff = refl
 
+-- comparisons,
 kindOf-comparison : (c : Comparison) → kindOf (comparisonKind c) ≡ two integer boolean (compareRow c)
 unfolding kindOf kinds comparisonKind
 kindOf-comparison equal = refl
@@ -125,6 +130,7 @@ kindOf-comparison unequal = refl
 kindOf-comparison atMost = refl
 kindOf-comparison below = refl
 
+-- quantifiers.
 kindOf-quantifier : (q : Quantifier) → kindOf (quantifierKind q) ≡ kind slotNumber (nodeNumber boolean) boolean (λ x y. quantifyRow q (natAbs x) (natAbs y))
 unfolding kindOf kinds quantifierKind
 kindOf-quantifier exists = refl
@@ -140,6 +146,7 @@ pub record RowKind (r : Row) : Type 0 where
   pub x-fits : (Γ : Declarations) (before : List Row) → RowFits Γ before r → FieldFits Γ before (kind .fieldX) (xOf r)
   pub y-fits : (Γ : Declarations) (before : List Row) → RowFits Γ before r → FieldFits Γ before (kind .fieldY) (yOf r)
 
+-- So is every row.
 pub rowKind : (r : Row) → RowKind r
 unfolding kindOf kinds number isOne eqZ isBit
 rowKind (constantRow z) = record { kind = _; kind-is = refl; row-is = refl; x-fits = λ Γ b h. tt; y-fits = λ Γ b h. refl }

@@ -76,6 +76,7 @@ module _ (bs : List ℕ) where
       go true t = rw (eqZ→≡ x (pos 0) (&&-fst (eqZ x (pos 0)) (eqZ y (pos 1)) t), eqZ→≡ y (pos 1) (&&-snd (eqZ x (pos 0)) (eqZ y (pos 1)) t)) (leZ-yes tt)
       go false t = leZ-yes t
 
+  -- So the domain of a variable without a fault is not empty.
   variableFault→≤ : (i p : ℕ) → variableFault bs i p ≡ none → xAt bs p ≤ℤ yAt bs p
   unfolding variableFault
   variableFault→≤ i p h =

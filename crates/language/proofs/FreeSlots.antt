@@ -16,20 +16,22 @@ use Rattle.language.specs.Meaning.{Assignment, Setting, put, slotAt, cou
 abbrev pub AgreeOn : (ℕ → Bool) → Setting → Setting → Type 0
 AgreeOn F σ τ = (t : ℕ) → T (F t) → σ t ≡ τ t
 
--- The first of two tests passed, or the second.
+-- Of two tests one passes if the first does,
 ||-left : (a b : Bool) → T a → T (a || b)
 ||-left true b t = tt
 ||-left false b t = absurd t
 
+-- or the second.
 ||-right : (a b : Bool) → T b → T (a || b)
 ||-right true b t = tt
 ||-right false b t = t
 
 module _ (F G : ℕ → Bool) {σ τ : Setting} where
-  -- Settings that agree on the free slots of two operands agree on those of each.
+  -- Settings that agree on the free slots of two operands agree on those of the first,
   AgreeOn-left : AgreeOn (λ t. F t || G t) σ τ → AgreeOn F σ τ
   AgreeOn-left h t f = h t (||-left (F t) (G t) f)
 
+  -- and on those of the second.
   AgreeOn-right : AgreeOn (λ t. F t || G t) σ τ → AgreeOn G σ τ
   AgreeOn-right h t g = h t (||-right (F t) (G t) g)
 

@@ -30,18 +30,22 @@ bound-false false f g h k = refl
 module _ {t : ℕ} where
   -- ---- one operator
 
+  -- a connective,
   connect-without : (c : Connective) {a b : BExp ⊥} → WithoutB t a → WithoutB t b → WithoutB t (connect c a b)
   unfolding freeB
   connect-without c a b = record { not-free = rw (a .not-free, b .not-free) }
 
+  -- a comparison,
   compare-without : (c : Comparison) {a b : IExp ⊥} → WithoutI t a → WithoutI t b → WithoutB t (compare c a b)
   unfolding freeB
   compare-without c a b = record { not-free = rw (a .not-free, b .not-free) }
 
+  -- a negation,
   negation-without : {a : BExp ⊥} → WithoutB t a → WithoutB t (negation a)
   unfolding freeB
   negation-without a = record { not-free = a .not-free }
 
+  -- a quantifier: f says whether t is free in a body from which the new body comes.
   quantify-without : (q : Quantifier) (s : ℕ) (f : Bool) {a : BExp ⊥} → (not (eqb t s) && f) ≡ false → (f ≡ false → WithoutB t a) → WithoutB t (quantify q s a)
   unfolding freeB
   quantify-without q s f {a} h k = record { not-free = bound-false (not (eqb t s)) f (freeB t a) h (λ e. k e .not-free) }

@@ -31,6 +31,7 @@ module _ (Γ : Declarations) where
   unfoldable pub lowAssignment : Assignment
   lowAssignment = map (λ v. v .low) (Γ .variables)
 
+  -- It gives each variable its low end.
   valueOf-lowAssignment : (v : ℕ) → valueOf lowAssignment v ≡ variableAt Γ v .low
   unfolding valueOf lowAssignment variableAt noVariable
   valueOf-lowAssignment v = List·getD-map (λ (x : Variable). x .low) (Γ .variables) v noVariable
