@@ -1,6 +1,6 @@
 -- Demand 3 on bytes: for every table that is translated, every reading ρ of the rules, every reading ρ′ under which the new table is evaluated and
--- every assignment within the domains, the new table takes the same assignment, meets no number beyond the limit, and its i-th constraint
--- is true exactly where the i-th constraint of the table is true under ρ, and false elsewhere.
+-- every assignment within the domains, the new table passes the check, takes the same assignment, meets no number beyond the limit, and its
+-- i-th constraint is true exactly where the i-th constraint of the table is true under ρ, and false elsewhere.
 -- Assumes nothing.
 use mathlib.Core.Path.{_≡_, ap, _∙_}
 use Prim.Native.Nat.{ℕ, _<_}
@@ -17,32 +17,32 @@ use lib.Signed.{leZ, leZ-yes}
 use Rattle.numbers.specs.Limits.{mostBytes}
 use Rattle.numbers.specs.Whole.{between}
 use Rattle.numbers.proofs.Tests.{&&-intro, &&-fst, &&-snd, T→≡true, Tnot→≡false}
-use Rattle.language.specs.Syntax.{boolean, BExp, Declarations}
+use Rattle.language.specs.Syntax.{BExp, Declarations}
 use Rattle.language.specs.Readings.{Reading}
-use Rattle.language.specs.Tables.{Tree, freeIn, freeB, treeB, trees}
+use Rattle.language.specs.Tables.{Tree, freeB, treeB, trees}
 use Rattle.language.specs.Meaning.{Assignment, slotAt, valueOf, valueB, calmB}
 use Rattle.language.proofs.FreeSlots.{AgreeOn, inB, valueB-agree, calmB-agree}
 use Rattle.rules.specs.Bounds.{variableAt, variableInterval}
 use Rattle.rules.specs.Demand.{firstOf, newRows, isTrue}
-use Rattle.rules.specs.Soundness.{Fits, All, IsNode}
+use Rattle.rules.specs.Soundness.{Fits, All}
 use Rattle.rules.proofs.CalmCompanions.{calm-P}
 use Rattle.rules.proofs.Demand.{translation-meets-demand as rows-meet-demand}
-use Rattle.rules.proofs.FreeCompanions.{companions-without-B}
 use Rattle.rules.proofs.LowEnds.{lowSetting, lowSetting-within}
-use Rattle.rules.proofs.Nodes.{IsNode→HasTree-bool}
-use Rattle.rules.proofs.Translation.{logical-companions}
 use Rattle.answers.specs.Sections.{variablesAt, declarations, rows, nodeTrees, constraints}
 use Rattle.answers.specs.Check.{checkFault}
 use Rattle.answers.specs.Answers.{unset, assignmentFault, valueOfConstraint, allCalm, boundsFault, roomFault, translated, translation}
 use Rattle.answers.proofs.Faults.{none-unless, none-cond-fault, none-firstFault}
-use Rattle.answers.proofs.Listed.{All-at, All-lookup, All-mapped}
+use Rattle.answers.proofs.Listed.{All-at, All-mapped}
 use Rattle.answers.proofs.Declared.{length-slots, getD-map}
-use Rattle.answers.proofs.ConstraintsFit.{ClosedNode}
+use Rattle.answers.proofs.NewConstraints.{constraint-node, constraint-free, P-free}
+use Rattle.answers.proofs.NewPassed.{checkFault-new}
 use Rattle.answers.proofs.NewTable.{declarations-new, rows-new, constraints-new}
 use Rattle.answers.proofs.Translatable.{Translatable, none→Translatable}
 
 -- What is demanded of the translation of bs under ρ, evaluated under ρ′ at α.
 pub record BytesDemand (bs : List ℕ) (ρ ρ′ : Reading) (α : Assignment) : Type 0 where
+  -- "it is never refused by the check"
+  pub checked : checkFault (translation bs ρ) ≡ none
   -- the same assignments are within the domains
   pub assignment : assignmentFault (translation bs ρ) α ≡ none
   -- evaluation meets no number beyond the limit
@@ -107,49 +107,33 @@ module _ (bs : List ℕ) (ρ : Reading) where
     unfolding assignmentFault variablesAt
     assignmentFault-new α = rw (declarations-new bs ρ h)
 
-    -- The new table's trees are those of the rules' rows.
-    nodeTrees-new : nodeTrees new ≡ newTrees
-    unfolding nodeTrees translated
-    nodeTrees-new = ap trees (rows-new bs ρ h)
+    module _ (i : ℕ) (l : i < length (constraints bs)) (ρ′ : Reading) (α : Assignment) (fits : Fits Γ α (lowSetting Γ)) where
+      -- the node that the i-th constraint names, and P of it
+      abbrev e : BExp ⊥
+      e = treeB (trees (rows bs)) (getD (constraints bs) i 0)
 
-    module _ (k : ℕ) (n : IsNode (rows bs) boolean k) (closed : ClosedNode bs k) where
-      -- No declared slot is free in a constraint,
-      old-free : (t : ℕ) → t < length (Γ .slots) → freeB t (treeB (trees (rows bs)) k) ≡ false
-      unfolding nodeTrees freeIn
-      old-free t l = rw (IsNode→HasTree-bool n .tree) at (closed t (rw length-slots at l))
+      abbrev P : BExp ⊥
+      P = treeB newTrees (firstOf ρ Γ (rows bs) (getD (constraints bs) i 0))
 
-      -- nor in P of it.
-      new-free : (t : ℕ) → t < length (Γ .slots) → freeB t (treeB newTrees (firstOf ρ Γ (rows bs) k)) ≡ false
-      new-free t l =
-          rw (logical-companions ρ Γ (rows bs) (h .passed .well-formed) k n .P-tree)
-          (companions-without-B ρ Γ t (treeB (trees (rows bs)) k) (old-free t l) .0 .not-free)
+      -- P does not tell the low ends from no setting.
+      P-agrees : AgreeOn (inB P) unset (lowSetting Γ)
+      P-agrees = closed-agree Γ P (λ t b. P-free bs (h .passed) i l ρ t (rw length-slots at b))
 
-      module _ (ρ′ : Reading) (α : Assignment) (fits : Fits Γ α (lowSetting Γ)) where
-        -- P of a constraint is true exactly where the constraint is.
-        P-told : valueB ρ′ Γ α (treeB newTrees (firstOf ρ Γ (rows bs) k)) unset ≡ some (isTrue (valueB ρ Γ α (treeB (trees (rows bs)) k) unset))
-        unfolding nodeTrees
-        P-told =
-            let met = rows-meet-demand ρ Γ (rows bs) (h .passed .well-formed) (h .bounded) α (lowSetting Γ) fits ρ′ in
-            let P : BExp ⊥ = treeB newTrees (firstOf ρ Γ (rows bs) k) in
-            let e : BExp ⊥ = treeB (trees (rows bs)) k in
-            rw (valueB-agree ρ′ Γ α P unset (lowSetting Γ) (closed-agree Γ P new-free), valueB-agree ρ Γ α e unset (lowSetting Γ) (closed-agree Γ e old-free))
-            (met .truths k n .P-is)
+      -- P is true exactly where the constraint is.
+      P-told : valueB ρ′ Γ α P unset ≡ some (isTrue (valueB ρ Γ α e unset))
+      unfolding nodeTrees
+      P-told =
+          let met = rows-meet-demand ρ Γ (rows bs) (h .passed .well-formed) (h .bounded) α (lowSetting Γ) fits ρ′ in
+          let e-agrees : AgreeOn (inB e) unset (lowSetting Γ) = closed-agree Γ e (λ t b. constraint-free bs (h .passed) i l t (rw length-slots at b)) in
+          rw (valueB-agree ρ′ Γ α P unset (lowSetting Γ) P-agrees, valueB-agree ρ Γ α e unset (lowSetting Γ) e-agrees)
+          (met .truths (getD (constraints bs) i 0) (constraint-node bs (h .passed) i l) .P-is)
 
-        -- A walk over it meets no number beyond the limit.
-        P-calm : T (calmB ρ′ Γ α (treeB newTrees (firstOf ρ Γ (rows bs) k)) unset)
-        unfolding nodeTrees
-        P-calm =
-            let P : BExp ⊥ = treeB newTrees (firstOf ρ Γ (rows bs) k) in
-            rw (calmB-agree ρ′ Γ α P unset (lowSetting Γ) (closed-agree Γ P new-free))
-            (calm-P ρ ρ′ Γ (rows bs) (h .passed .well-formed) (h .bounded) α (lowSetting Γ) fits k n)
-
-    -- Each constraint of a table that is translated is a Boolean node,
-    constraint-node : (i : ℕ) → i < length (constraints bs) → IsNode (rows bs) boolean (getD (constraints bs) i 0)
-    constraint-node = All-lookup (IsNode (rows bs) boolean) (constraints bs) 0 (h .passed .boolean-constraints)
-
-    -- and no slot is free in it.
-    constraint-closed : (i : ℕ) → i < length (constraints bs) → ClosedNode bs (getD (constraints bs) i 0)
-    constraint-closed = All-lookup (ClosedNode bs) (constraints bs) 0 (h .passed .closed-constraints)
+      -- A walk over it meets no number beyond the limit.
+      P-calm : T (calmB ρ′ Γ α P unset)
+      unfolding nodeTrees
+      P-calm =
+          rw (calmB-agree ρ′ Γ α P unset (lowSetting Γ) P-agrees)
+          (calm-P ρ ρ′ Γ (rows bs) (h .passed .well-formed) (h .bounded) α (lowSetting Γ) fits (getD (constraints bs) i 0) (constraint-node bs (h .passed) i l))
 
     -- The translation meets the demand.
     pub translation-meets-demand : (ρ′ : Reading) (α : Assignment) → assignmentFault bs α ≡ none → BytesDemand bs ρ ρ′ α
@@ -160,14 +144,15 @@ module _ (bs : List ℕ) (ρ : Reading) where
         let calm-each : All (λ k. T (calmB ρ′ Γ α (treeB newTrees k) unset)) (map first (constraints bs)) =
         All-mapped (λ k. T (calmB ρ′ Γ α (treeB newTrees k) unset)) first (constraints bs)
         (All-at (λ k. T (calmB ρ′ Γ α (treeB newTrees (first k)) unset)) (constraints bs) 0
-        (λ i l. P-calm (getD (constraints bs) i 0) (constraint-node i l) (constraint-closed i l) ρ′ α fits)) in
+        (λ i l. P-calm i l ρ′ α fits)) in
         record {
+          checked = checkFault-new bs ρ h;
           assignment = assignmentFault-new α ∙ a;
           calm = T→≡true _ (allCalm-All new ρ′ α (constraints new) (rw (declarations-new bs ρ h, rows-new bs ρ h, constraints-new bs ρ h) calm-each));
           as-many = ap length (constraints-new bs ρ h) ∙ length-map (constraints bs) first;
           told = λ i l.
               rw (declarations-new bs ρ h, rows-new bs ρ h, constraints-new bs ρ h, getD-map first (constraints bs) 0 0 i l)
-              (P-told (getD (constraints bs) i 0) (constraint-node i l) (constraint-closed i l) ρ′ α fits);
+              (P-told i l ρ′ α fits);
         }
 
 -- Demand 3 on bytes, in the words of the answers: a table that is not refused, and an assignment that is not refused for it.

@@ -10,6 +10,7 @@ pub mod Fields
 pub mod KindsFit
 pub mod Listed
 pub mod NewArrays
+pub mod NewConstraints
 pub mod NewPassed
 pub mod NewRecords
 pub mod NewSections

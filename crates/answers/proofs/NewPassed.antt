@@ -4,7 +4,7 @@ use mathlib.Core.Path.{_≡_, sym, _∙_}
 use Prim.Native.Nat.{ℕ, _+_, _*_, _≤_, _<_}
 use native.Mathlib.Nat.{mul-mod-right, mul-one, mul-le-mul-left}
 use native.Mathlib.Omega.{arith}
-use mathlib.Core.Bool.{true, false}
+use mathlib.Core.Bool.{true}
 use mathlib.Core.List.{List, []}
 use mathlib.Core.Option.{none}
 use lib.IntN.{pos}
@@ -13,27 +13,26 @@ use lib.Seq.{getD-take, length-take-le}
 use Rattle.numbers.specs.Whole.{eqZ}
 use Rattle.numbers.proofs.Tests.{&&-intro}
 use Rattle.numbers.proofs.Division.{eqZ-refl}
-use Rattle.language.specs.Syntax.{boolean}
 use Rattle.language.specs.Readings.{Reading}
-use Rattle.language.specs.Tables.{Row, truthRow, freeIn, freeB, treeB, trees}
+use Rattle.language.specs.Tables.{Row, truthRow, freeIn}
 use Rattle.rules.specs.Demand.{firstOf}
-use Rattle.rules.specs.Soundness.{IsNode, RowFits}
+use Rattle.rules.specs.Soundness.{RowFits}
 use Rattle.rules.proofs.Nodes.{IsNode→HasTree-bool, RowsFit-at}
-use Rattle.rules.proofs.Translation.{logical-companions, WellFormed-newRows}
-use Rattle.rules.proofs.FreeCompanions.{companions-without-B}
+use Rattle.rules.proofs.Translation.{WellFormed-newRows}
 use Rattle.table.specs.Records.{HD, recordSize, firstLetter, secondLetter}
 use Rattle.answers.specs.Sections.{variablesAt, slotsAt, nodesAt, constraintsAt, variableCount, slotCount, nodeCount, constraintCount, declarations, rows, nodeTrees, constraints}
 use Rattle.answers.specs.Check.{isZero, headerFault, variableFault, slotFault, nodeFault, constraintFault, checkFault}
 use Rattle.answers.specs.Answers.{translated, newCount, translation}
 use Rattle.answers.proofs.Faults.{orElse-none, unless-none}
-use Rattle.answers.proofs.Listed.{listed-≡, All-lookup}
+use Rattle.answers.proofs.Listed.{listed-≡}
 use Rattle.answers.proofs.Fields.{rowsBelow}
 use Rattle.answers.proofs.NoFaults.{LengthAllowed, NoFaults→checkFault}
 use Rattle.answers.proofs.NodesFit.{NodePassed→none}
 use Rattle.answers.proofs.ConstraintsFit.{ClosedNode, ConstraintPassed→none}
 use Rattle.answers.proofs.RowRecords.{rowOf-RecordIs, RowFits→NodePassed}
+use Rattle.answers.proofs.NewConstraints.{P-node, P-free}
 use Rattle.answers.proofs.NewRecords.{length-translation, recordCount-translation, copied-alike}
-use Rattle.answers.proofs.NewWords.{header-is, node-is, constraint-is, P-of-constraint}
+use Rattle.answers.proofs.NewWords.{header-is, node-is, constraint-is}
 use Rattle.answers.proofs.NewSections.{slotsAt-new, variableCount-new, slotCount-new}
 use Rattle.answers.proofs.NewArrays.{nodesAt-new, arraysFault-new}
 use Rattle.answers.proofs.NewTable.{constraintsAt-new, restAt-new, nodeCount-new, constraintCount-new, declarations-new, rows-new}
@@ -69,7 +68,8 @@ module _ (bs : List ℕ) (ρ : Reading) where
         let r = header-is bs ρ h in
         orElse-none (unless-none 2 _ (rw (r .marks HD) tt))
         (unless-none 3 _
-        (rw (r .kind-is, r .aux-is, r .x-is, r .y-is, recordCount-translation bs ρ (h .passed)) (&&-intro (eqZ (pos (newCount bs ρ)) (pos (newCount bs ρ))) _ (eqZ-refl (pos (newCount bs ρ))) (eqZ-refl (pos 0)))))
+        (rw (r .kind-is, r .aux-is, r .x-is, r .y-is, recordCount-translation bs ρ (h .passed))
+        (&&-intro (eqZ (pos (newCount bs ρ)) (pos (newCount bs ρ))) _ (eqZ-refl (pos (newCount bs ρ))) (eqZ-refl (pos 0)))))
 
     -- Its variables are copied,
     variables-none : (i : ℕ) → i < variableCount new → variableFault new i (variablesAt new + i) ≡ none
@@ -111,22 +111,16 @@ module _ (bs : List ℕ) (ρ : Reading) where
 
     -- ---- constraints
 
-    -- P of a constraint has no free slot.
-    closed-P : (k : ℕ) → IsNode (rows bs) boolean k → ClosedNode bs k → ClosedNode new (firstOf ρ (declarations bs) (rows bs) k)
+    -- No slot is free in P of a constraint.
+    closed-P : (i : ℕ) (l : i < length (constraints bs)) → ClosedNode new (firstOf ρ (declarations bs) (rows bs) (getD (constraints bs) i 0))
     unfolding nodeTrees translated freeIn
-    closed-P k n closed t l =
-        let c = logical-companions ρ (declarations bs) (rows bs) (h .passed .well-formed) k n in
-        let old : freeB t (treeB (trees (rows bs)) k) ≡ false = rw (IsNode→HasTree-bool n .tree) at (closed t (rw (slotCount-new bs ρ h) at l)) in
-        rw (rows-new bs ρ h, IsNode→HasTree-bool (c .P-node) .tree, c .P-tree) (companions-without-B ρ (declarations bs) t (treeB (trees (rows bs)) k) old .0 .not-free)
+    closed-P i l t b = rw (rows-new bs ρ h, IsNode→HasTree-bool (P-node bs (h .passed) i l ρ) .tree) (P-free bs (h .passed) i l ρ t (rw (slotCount-new bs ρ h) at b))
 
     -- Its constraints name such nodes.
     constraints-none : (i : ℕ) → i < constraintCount new → constraintFault new (constraintsAt new + i) ≡ none
     unfolding translated
     constraints-none i l =
         let b : i < length (constraints bs) = rw (constraintCount-new bs ρ h) at l in
-        let k : ℕ = getD (constraints bs) i 0 in
-        let n : IsNode (rows bs) boolean k = All-lookup (IsNode (rows bs) boolean) (constraints bs) 0 (h .passed .boolean-constraints) i b in
-        let c : ClosedNode bs k = All-lookup (ClosedNode bs) (constraints bs) 0 (h .passed .closed-constraints) i b in
         let r = constraint-is bs ρ h i b in
         rw (constraintsAt-new bs ρ h)
         (ConstraintPassed→none new (nodesAt bs + length newTable + i)
@@ -135,8 +129,8 @@ module _ (bs : List ℕ) (ρ : Reading) where
           aux-is = r .aux-is;
           y-is = r .y-is;
           nonneg = rw (r .x-is) tt;
-          node = rw (r .x-is, rows-new bs ρ h) (P-of-constraint bs ρ h k n);
-          closed = rw (r .x-is) (closed-P k n c);
+          node = rw (r .x-is, rows-new bs ρ h) (P-node bs (h .passed) i b ρ);
+          closed = rw (r .x-is) (closed-P i b);
         }))
 
     -- ---- the check

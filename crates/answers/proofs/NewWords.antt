@@ -11,15 +11,15 @@ use lib.ListN.{length, getD, take}
 use lib.Seq.{length-take-le}
 use Rattle.numbers.specs.Limits.{limit}
 use Rattle.numbers.specs.Whole.{withinLimit}
-use Rattle.language.specs.Syntax.{boolean, constant, Declarations}
+use Rattle.language.specs.Syntax.{constant, Declarations}
 use Rattle.language.specs.Readings.{Reading}
 use Rattle.language.specs.Tables.{Row, Tree, whole, treeAt, fill, trees}
 use Rattle.language.specs.Meaning.{valueI}
 use Rattle.rules.specs.Demand.{HasValue, firstOf, newRows}
-use Rattle.rules.specs.Soundness.{IsNode, WellFormed}
+use Rattle.rules.specs.Soundness.{WellFormed}
 use Rattle.rules.proofs.Every.{All-getD}
 use Rattle.rules.proofs.Nodes.{WellFormed→tree-at, RowsFit-at}
-use Rattle.rules.proofs.Translation.{logical-companions, WellFormed-newRows}
+use Rattle.rules.proofs.Translation.{WellFormed-newRows}
 use Rattle.rules.proofs.Demand.{translation-meets-demand}
 use Rattle.rules.proofs.LowEnds.{lowSetting, lowAssignment, lowEnds-fit}
 use Rattle.table.specs.Records.{HD, ND, CN}
@@ -27,9 +27,9 @@ use Rattle.table.proofs.Words.{InWord}
 use Rattle.table.proofs.ReadBack.{RecordIs, recordBytes-RecordIs, Alike→RecordIs}
 use Rattle.answers.specs.Sections.{nodesAt, declarations, rows, nodeTrees, constraints}
 use Rattle.answers.specs.Answers.{translated, newCount, translation}
-use Rattle.answers.proofs.Listed.{All-lookup}
 use Rattle.answers.proofs.Declared.{length-variables, length-slots, length-arrays}
 use Rattle.answers.proofs.Passed.{few-records}
+use Rattle.answers.proofs.NewConstraints.{P-node}
 use Rattle.answers.proofs.NewRecords.{length-translation, recordCount-translation, header-alike, node-alike, constraint-alike}
 use Rattle.answers.proofs.RowRecords.{numberOf, xOf, yOf, nodeBytes-is}
 use Rattle.answers.proofs.RowWords.{Countable, ConstantInWord, RowFits→InWord}
@@ -91,10 +91,6 @@ module _ (bs : List ℕ) (ρ : Reading) where
           nodes = rw (length-take-le i newTable (omega arith)) (omega (arith, few-new-records));
         }
 
-    -- P of a constraint is a node of the new table.
-    pub P-of-constraint : (k : ℕ) → IsNode (rows bs) boolean k → IsNode newTable boolean (firstOf ρ Γ (rows bs) k)
-    P-of-constraint k n = logical-companions ρ Γ (rows bs) (h .passed .well-formed) k n .P-node
-
     -- ---- the records
 
     -- The header has the new count.
@@ -116,6 +112,5 @@ module _ (bs : List ℕ) (ρ : Reading) where
     unfolding translated newCount
     constraint-is i l =
         let k : ℕ = getD (constraints bs) i 0 in
-        let n = P-of-constraint k (All-lookup (IsNode (rows bs) boolean) (constraints bs) 0 (h .passed .boolean-constraints) i l) in
         Alike→RecordIs (constraint-alike bs ρ (h .passed) i 0 l)
-        (recordBytes-RecordIs CN 0 (pos (firstOf ρ Γ (rows bs) k)) (pos 0) (omega (arith, n .earlier, few-new-records)) (omega arith))
+        (recordBytes-RecordIs CN 0 (pos (firstOf ρ Γ (rows bs) k)) (pos 0) (omega (arith, P-node bs (h .passed) i l ρ .earlier, few-new-records)) (omega arith))
