@@ -41,17 +41,11 @@ module _ (bs : List ℕ) where
   arrayFault→ArrayAllowed : (j p : ℕ) → arrayFault bs j p ≡ none → ArrayAllowed j p
   unfolding arrayFault near
   arrayFault→ArrayAllowed j p h =
-      let a : Bool = ltb j mostArrays in
-      let b : Bool = isKind (kindAt bs p) in
-      let c : Bool = eqb (auxAt bs p) 0 in
-      let d : Bool = near (xAt bs p) in
-      let e : Bool = between (pos 1) (pos mostElements) (yAt bs p) in
-      let all : T (a && b && c && d && e) = none-unless 3 (a && b && c && d && e) h in
-      let size = between→natAbs 1 mostElements (yAt bs p) (&&-snd (a && b && c && d) e all) in
-      let abcd : T (a && b && c && d) = &&-fst (a && b && c && d) e all in
+      let passed = none-unless 3 _ h in
+      let size = between→natAbs 1 mostElements (yAt bs p) (search &&-snd) in
       record {
-        few = ltb→lt j mostArrays (&&-fst a b (&&-fst (a && b) c (&&-fst (a && b && c) d abcd)));
-        near-enough = leb→le (natAbs (xAt bs p)) reach (&&-snd (a && b && c) d abcd);
+        few = ltb→lt j mostArrays (search &&-fst);
+        near-enough = leb→le (natAbs (xAt bs p)) reach (search (&&-fst, &&-snd));
         some-element = size .0;
         few-elements = size .1;
       }

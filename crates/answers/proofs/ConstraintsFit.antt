@@ -63,22 +63,18 @@ module _ (bs : List ℕ) where
     unfolding constraintFault isZero fieldAllowed fieldNames fieldTyped rows
     none→ConstraintPassed h =
         let x : ℤ = xAt bs p in
-        let a : Bool = eqb (kindAt bs p) 0 in
-        let b : Bool = eqb (auxAt bs p) 0 in
-        let c : Bool = isZero (yAt bs p) in
-        let first = none-orElse (unless 3 (a && b && c)) _ h in
-        let second = none-orElse (unless 4 (names (nodeCount bs) x)) _ (first .1) in
-        let third = none-orElse (unless 5 (sameSort (nodeSort bs x) boolean)) _ (second .1) in
-        let allowed = none-unless 3 (a && b && c) (first .0) in
-        let named = none-unless 4 (names (nodeCount bs) x) (second .0) in
-        let fits = passed→FieldFits bs (nodeCount bs) (nodeNumber boolean) x tt named (none-unless 5 (sameSort (nodeSort bs x) boolean) (third .0)) in
+        let first = none-orElse (unless 3 _) _ h in
+        let second = none-orElse (unless 4 _) _ (first .1) in
+        let third = none-orElse (unless 5 _) _ (second .1) in
+        let allowed = none-unless 3 _ (first .0) in
+        let fits = passed→FieldFits bs (nodeCount bs) (nodeNumber boolean) x tt (none-unless 4 _ (second .0)) (none-unless 5 _ (third .0)) in
         record {
-          kind-is = eqb→eq (kindAt bs p) 0 (&&-fst a b (&&-fst (a && b) c allowed));
-          aux-is = eqb→eq (auxAt bs p) 0 (&&-snd a b (&&-fst (a && b) c allowed));
-          y-is = eqZ→≡ (yAt bs p) (pos 0) (&&-snd (a && b) c allowed);
+          kind-is = eqb→eq (kindAt bs p) 0 (search &&-fst);
+          aux-is = eqb→eq (auxAt bs p) 0 (search (&&-fst, &&-snd));
+          y-is = eqZ→≡ (yAt bs p) (pos 0) (search &&-snd);
           nonneg = fits .0;
           node = fits .1;
-          closed = closedIn→free (natAbs x) (slotCount bs) (none-unless 6 (closedIn bs (natAbs x) (slotCount bs)) (third .1));
+          closed = closedIn→free (natAbs x) (slotCount bs) (none-unless 6 _ (third .1));
         }
 
     -- and one that has passed has no fault.

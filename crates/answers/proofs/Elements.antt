@@ -33,15 +33,14 @@ module _ (bs : List ℕ) (t : Sort) (p : ℕ) where
   pub none→ElementPassed : elementFault bs t p ≡ none → ElementPassed bs t p
   unfolding elementFault
   none→ElementPassed h =
-      let k : Bool = eqb (kindAt bs p) 0 in
-      let first = none-orElse (unless 2 (marked bs EL p)) _ h in
-      let second = none-orElse (unless 3 (isKind (kindAt bs p) && eqb (auxAt bs p) 0 && isZero (yAt bs p) && constantAllowed bs t (kindAt bs p) (xAt bs p))) _ (first .1) in
-      let third = none-orElse (unless 4 (k || names (variableCount bs) (xAt bs p))) _ (second .1) in
+      let first = none-orElse (unless 2 _) _ h in
+      let second = none-orElse (unless 3 _) _ (first .1) in
+      let third = none-orElse (unless 4 _) _ (second .1) in
       record {
-        mark = none-unless 2 (marked bs EL p) (first .0);
-        allowed = none-unless 3 (isKind (kindAt bs p) && eqb (auxAt bs p) 0 && isZero (yAt bs p) && constantAllowed bs t (kindAt bs p) (xAt bs p)) (second .0);
-        named = none-unless 4 (k || names (variableCount bs) (xAt bs p)) (third .0);
-        typed = none-unless 5 (k || sameSort (variableSort bs (xAt bs p)) t) (third .1);
+        mark = none-unless 2 _ (first .0);
+        allowed = none-unless 3 _ (second .0);
+        named = none-unless 4 _ (third .0);
+        typed = none-unless 5 _ (third .1);
       }
 
   -- and one that has passed has no fault.

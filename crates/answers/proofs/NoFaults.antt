@@ -38,14 +38,11 @@ module _ (bs : List ℕ) where
   lengthFault→LengthAllowed : lengthFault bs ≡ none → LengthAllowed bs
   unfolding lengthFault lengthAllowed
   lengthFault→LengthAllowed h =
-      let a : Bool = leb recordSize (length bs) in
-      let b : Bool = leb (length bs) mostBytes in
-      let c : Bool = eqb (length bs % recordSize) 0 in
-      let all : T (a && b && c) = none-cond (a && b && c) _ h in
+      let passed = none-cond (leb recordSize (length bs) && leb (length bs) mostBytes && eqb (length bs % recordSize) 0) _ h in
       record {
-        some-bytes = leb→le recordSize (length bs) (&&-fst a b (&&-fst (a && b) c all));
-        few-bytes = leb→le (length bs) mostBytes (&&-snd a b (&&-fst (a && b) c all));
-        whole = eqb→eq (length bs % recordSize) 0 (&&-snd (a && b) c all);
+        some-bytes = leb→le recordSize (length bs) (search &&-fst);
+        few-bytes = leb→le (length bs) mostBytes (search (&&-fst, &&-snd));
+        whole = eqb→eq (length bs % recordSize) 0 (search &&-snd);
       }
 
   -- and a length that is allowed has no fault.

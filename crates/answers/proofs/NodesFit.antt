@@ -34,24 +34,17 @@ module _ (bs : List ℕ) (n p : ℕ) where
   kindFault-none→NodePassed : (k : Kind) → kindOf (kindAt bs p) ≡ some k → kindFault bs n k p ≡ none → NodePassed bs n p
   unfolding kindFault
   kindFault-none→NodePassed k e h =
-      let X : Field = k .fieldX in
-      let Y : Field = k .fieldY in
-      let x : ℤ = xAt bs p in
-      let y : ℤ = yAt bs p in
-      let first = none-orElse (unless 3 (eqb (auxAt bs p) 0 && fieldAllowed bs X x && fieldAllowed bs Y y)) _ h in
-      let second = none-orElse (unless 4 (fieldNames bs n X x && fieldNames bs n Y y)) _ (first .1) in
-      let allowed = none-unless 3 (eqb (auxAt bs p) 0 && fieldAllowed bs X x && fieldAllowed bs Y y) (first .0) in
-      let named = none-unless 4 (fieldNames bs n X x && fieldNames bs n Y y) (second .0) in
-      let typed = none-unless 5 (fieldTyped bs X x && fieldTyped bs Y y) (second .1) in
-      let front = &&-fst (eqb (auxAt bs p) 0 && fieldAllowed bs X x) (fieldAllowed bs Y y) allowed in
+      let first = none-orElse (unless 3 _) _ h in
+      let second = none-orElse (unless 4 _) _ (first .1) in
+      let allowed = none-unless 3 _ (first .0) in
+      let named = none-unless 4 _ (second .0) in
+      let typed = none-unless 5 _ (second .1) in
       record {
         kind = k;
         kind-is = e;
-        aux-is = eqb→eq (auxAt bs p) 0 (&&-fst (eqb (auxAt bs p) 0) (fieldAllowed bs X x) front);
-        x-fits = passed→FieldFits bs n X x (&&-snd (eqb (auxAt bs p) 0) (fieldAllowed bs X x) front)
-            (&&-fst (fieldNames bs n X x) (fieldNames bs n Y y) named) (&&-fst (fieldTyped bs X x) (fieldTyped bs Y y) typed);
-        y-fits = passed→FieldFits bs n Y y (&&-snd (eqb (auxAt bs p) 0 && fieldAllowed bs X x) (fieldAllowed bs Y y) allowed)
-            (&&-snd (fieldNames bs n X x) (fieldNames bs n Y y) named) (&&-snd (fieldTyped bs X x) (fieldTyped bs Y y) typed);
+        aux-is = eqb→eq (auxAt bs p) 0 (search &&-fst);
+        x-fits = passed→FieldFits bs n (k .fieldX) (xAt bs p) (search (&&-fst, &&-snd)) (search &&-fst) (search &&-fst);
+        y-fits = passed→FieldFits bs n (k .fieldY) (yAt bs p) (search &&-snd) (search &&-snd) (search &&-snd);
       }
 
   -- So a node without a fault has passed,

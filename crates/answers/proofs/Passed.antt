@@ -68,26 +68,12 @@ module _ (bs : List ℕ) where
   -- A variable's own test says that there are not too many before it,
   variableFault→few : (i p : ℕ) → variableFault bs i p ≡ none → i < mostVariables
   unfolding variableFault
-  variableFault→few i p h =
-      let a : Bool = ltb i mostVariables in
-      let b : Bool = isKind (kindAt bs p) in
-      let c : Bool = eqb (auxAt bs p) 0 in
-      let d : Bool = domainAllowed bs (kindAt bs p) (xAt bs p) (yAt bs p) in
-      ltb→lt i mostVariables (&&-fst a b (&&-fst (a && b) c (&&-fst (a && b && c) d (none-unless 3 (a && b && c && d) h))))
+  variableFault→few i p h = let passed = none-unless 3 _ h in ltb→lt i mostVariables (search &&-fst)
 
   -- and so does a slot's.
   slotFault→few : (i p : ℕ) → slotFault bs i p ≡ none → i < mostSlots
   unfolding slotFault
-  slotFault→few i p h =
-      let a : Bool = ltb i mostSlots in
-      let b : Bool = eqb (kindAt bs p) 0 in
-      let c : Bool = eqb (auxAt bs p) 0 in
-      let d : Bool = near (xAt bs p) in
-      let e : Bool = near (yAt bs p) in
-      let f : Bool = leb (count (slotOf bs p)) mostSlotValues in
-      let all : T (a && b && c && d && e && f) = none-unless 3 (a && b && c && d && e && f) h in
-      ltb→lt i mostSlots
-      (&&-fst a b (&&-fst (a && b) c (&&-fst (a && b && c) d (&&-fst (a && b && c && d) e (&&-fst (a && b && c && d && e) f all)))))
+  slotFault→few i p h = let passed = none-unless 3 _ h in ltb→lt i mostSlots (search &&-fst)
 
   -- A table that is not too long has not too many records.
   pub few-records : length bs ≤ mostBytes → recordCount bs ≤ 5_000
