@@ -47,8 +47,8 @@ module _ (bs : List ℕ) where
   none→ArrayPassed : (more j p : ℕ) → T (marked bs AR p) → arraysFault bs (suc more) j p ≡ none
       → ArrayPassed j p × (arraysFault bs more (suc j) (behindArray bs p) ≡ none)
   none→ArrayPassed more j p t h =
-      let first = none-orElse (firstFault (λ i. arrayFault bs j p) p 1) _ (rw (arraysFault-marked more j p t) at h) in
-      let second = none-orElse (firstFault (λ i. elementFault bs (sortOfKind (kindAt bs p)) (suc p + i)) (suc p) (natAbs (yAt bs p))) _ (first .1) in (
+      let first = none-orElse _ _ (rw (arraysFault-marked more j p t) at h) in
+      let second = none-orElse _ _ (first .1) in (
         record { mark = t; own = none-firstFault _ p 1 (first .0) 0 (omega arith); elements = none-firstFault _ (suc p) (natAbs (yAt bs p)) (second .0) },
         second .1,
       )

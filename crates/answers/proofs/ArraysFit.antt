@@ -4,10 +4,9 @@
 use mathlib.Core.Path.{_≡_}
 use Prim.Native.Nat.{ℕ, suc, _+_, _-_, _≤_, _<_}
 use native.Mathlib.Omega.{arith}
-use mathlib.Core.Bool.{Bool, _&&_}
 use mathlib.Core.List.{List, [], _∷_, map}
 use mathlib.Core.Option.{none}
-use lib.Dec.{T, eqb, leb, ltb, leb→le, ltb→lt}
+use lib.Dec.{T, leb, leb→le, ltb→lt}
 use lib.IntN.{ℤ, pos, negsuc, natAbs}
 use lib.ListN.{length}
 use Rattle.numbers.specs.Limits.{mostArrays, mostElements, reach}
@@ -15,9 +14,9 @@ use Rattle.numbers.specs.Whole.{between}
 use Rattle.numbers.proofs.Tests.{&&-fst, &&-snd}
 use Rattle.language.specs.Syntax.{Sort}
 use Rattle.rules.specs.Soundness.{All, ElementFits, ArrayFits}
-use Rattle.table.specs.Records.{EL, marked, kindAt, auxAt, xAt, yAt}
+use Rattle.table.specs.Records.{EL, marked, kindAt, xAt, yAt}
 use Rattle.answers.specs.Sections.{sortOfKind, behindArray, declarations, arrayOf}
-use Rattle.answers.specs.Check.{near, isKind, arrayFault}
+use Rattle.answers.specs.Check.{near, arrayFault}
 use Rattle.answers.proofs.Faults.{none-unless}
 use Rattle.answers.proofs.Listed.{length-listed, All-listed}
 use Rattle.answers.proofs.Elements.{none→ElementPassed, ElementPassed→ElementFits}

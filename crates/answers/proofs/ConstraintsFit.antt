@@ -5,7 +5,7 @@ use Prim.Native.Nat.{ℕ, zero, suc, _<_}
 use native.Mathlib.Nat.{not-suc-le-zero}
 use native.Mathlib.Omega.{arith}
 use native.Mathlib.Decide.{decLt}
-use mathlib.Core.Bool.{Bool, false, not, _&&_}
+use mathlib.Core.Bool.{false, not, _&&_}
 use mathlib.Core.List.{List}
 use mathlib.Core.Option.{none}
 use lib.Dec.{T, eqb, eqb→eq}
@@ -19,7 +19,7 @@ use Rattle.rules.specs.Soundness.{IsNode}
 use Rattle.table.specs.Records.{kindAt, auxAt, xAt, yAt}
 use Rattle.table.specs.Kinds.{nodeNumber}
 use Rattle.answers.specs.Sections.{slotCount, nodeCount, rows, nodeTrees}
-use Rattle.answers.specs.Check.{unless, isZero, names, sameSort, nodeSort, fieldAllowed, fieldNames, fieldTyped, closedIn, constraintFault}
+use Rattle.answers.specs.Check.{isZero, names, sameSort, nodeSort, fieldAllowed, fieldNames, fieldTyped, closedIn, constraintFault}
 use Rattle.answers.proofs.Faults.{orElse-none, none-orElse, unless-none, none-unless}
 use Rattle.answers.proofs.Fields.{passed→FieldFits, FieldFits→passed}
 
@@ -63,9 +63,9 @@ module _ (bs : List ℕ) where
     unfolding constraintFault isZero fieldAllowed fieldNames fieldTyped rows
     none→ConstraintPassed h =
         let x : ℤ = xAt bs p in
-        let first = none-orElse (unless 3 _) _ h in
-        let second = none-orElse (unless 4 _) _ (first .1) in
-        let third = none-orElse (unless 5 _) _ (second .1) in
+        let first = none-orElse _ _ h in
+        let second = none-orElse _ _ (first .1) in
+        let third = none-orElse _ _ (second .1) in
         let allowed = none-unless 3 _ (first .0) in
         let fits = passed→FieldFits bs (nodeCount bs) (nodeNumber boolean) x tt (none-unless 4 _ (second .0)) (none-unless 5 _ (third .0)) in
         record {

@@ -6,23 +6,23 @@ use mathlib.Core.Path.{_≡_, ap, _∙_}
 use Prim.Native.Nat.{ℕ, _<_}
 use native.Mathlib.Omega.{arith}
 use native.Mathlib.Decide.{decLt}
-use mathlib.Core.Bool.{Bool, true, false, cond, _&&_}
+use mathlib.Core.Bool.{true, false, cond}
 use mathlib.Core.List.{List, [], _∷_, map}
 use mathlib.Core.Option.{none, some}
 use lib.Arith.{le→nltb}
 use lib.Dec.{T, eqb, ltb}
 use lib.IntN.{pos}
 use lib.ListN.{length, getD, length-map}
-use lib.Signed.{leZ, leZ-yes}
+use lib.Signed.{leZ-yes}
 use Rattle.numbers.specs.Limits.{mostBytes}
 use Rattle.numbers.specs.Whole.{between}
 use Rattle.numbers.proofs.Tests.{&&-intro, &&-fst, &&-snd, T→≡true, Tnot→≡false}
 use Rattle.language.specs.Syntax.{BExp, Declarations}
 use Rattle.language.specs.Readings.{Reading}
 use Rattle.language.specs.Tables.{Tree, freeB, treeB, trees}
-use Rattle.language.specs.Meaning.{Assignment, slotAt, valueOf, valueB, calmB}
+use Rattle.language.specs.Meaning.{Assignment, slotAt, valueB, calmB}
 use Rattle.language.proofs.FreeSlots.{AgreeOn, inB, valueB-agree, calmB-agree}
-use Rattle.rules.specs.Bounds.{variableAt, variableInterval}
+use Rattle.rules.specs.Bounds.{variableInterval}
 use Rattle.rules.specs.Demand.{firstOf, newRows, isTrue}
 use Rattle.rules.specs.Soundness.{Fits, All}
 use Rattle.rules.proofs.CalmCompanions.{calm-P}
@@ -71,11 +71,7 @@ assignmentFault→Fits bs α a =
     let Γ : Declarations = declarations bs in
     let own = none-firstFault _ (variablesAt bs) (length (Γ .variables)) (none-cond-fault (eqb (length α) (length (Γ .variables))) _ _ a) in
     record {
-      variables = λ v l.
-          let x : Bool = leZ (variableAt Γ v .low) (valueOf α v) in
-          let y : Bool = leZ (valueOf α v) (variableAt Γ v .high) in
-          let t : T (x && y) = none-unless 10 (x && y) (own v l) in
-          record { above = leZ-yes (&&-fst x y t); below = leZ-yes (&&-snd x y t) };
+      variables = λ v l. let passed = none-unless 10 _ (own v l) in record { above = leZ-yes (search &&-fst); below = leZ-yes (search &&-snd) };
       slots = lowSetting-within Γ;
     }
 

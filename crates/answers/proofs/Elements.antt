@@ -12,7 +12,7 @@ use Rattle.rules.specs.Soundness.{ElementFits}
 use Rattle.table.specs.Records.{EL, marked, kindAt, auxAt, xAt, yAt}
 use Rattle.table.specs.Kinds.{variableNumber}
 use Rattle.answers.specs.Sections.{variableCount, declarations, elementOf}
-use Rattle.answers.specs.Check.{unless, names, isKind, isZero, sameSort, variableSort, constantAllowed, elementFault, fieldAllowed, fieldNames, fieldTyped}
+use Rattle.answers.specs.Check.{names, isKind, isZero, sameSort, variableSort, constantAllowed, elementFault, fieldAllowed, fieldNames, fieldTyped}
 use Rattle.answers.proofs.Faults.{orElse-none, none-orElse, unless-none, none-unless}
 use Rattle.answers.proofs.Fields.{passed→FieldFits}
 
@@ -33,9 +33,9 @@ module _ (bs : List ℕ) (t : Sort) (p : ℕ) where
   pub none→ElementPassed : elementFault bs t p ≡ none → ElementPassed bs t p
   unfolding elementFault
   none→ElementPassed h =
-      let first = none-orElse (unless 2 _) _ h in
-      let second = none-orElse (unless 3 _) _ (first .1) in
-      let third = none-orElse (unless 4 _) _ (second .1) in
+      let first = none-orElse _ _ h in
+      let second = none-orElse _ _ (first .1) in
+      let third = none-orElse _ _ (second .1) in
       record {
         mark = none-unless 2 _ (first .0);
         allowed = none-unless 3 _ (second .0);

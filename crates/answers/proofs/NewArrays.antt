@@ -69,7 +69,8 @@ module _ (bs : List ℕ) (ρ : Reading) where
           own = arrayFault-alike a j ∙ e .own;
           elements = λ i c.
               let d : i < natAbs (yAt bs p) = rw (yAt-alike a) at c in
-              rw (kindAt-alike a) (ElementPassed→none new t (suc p + i) (element-kept t (suc p + i) (omega arith) (omega arith) (none→ElementPassed bs t (suc p + i) (e .elements i d))));
+              let again = element-kept t (suc p + i) (omega arith) (omega arith) (none→ElementPassed bs t (suc p + i) (e .elements i d)) in
+              rw (kindAt-alike a) (ElementPassed→none new t (suc p + i) again);
         }
 
     -- An array ends where it ended.

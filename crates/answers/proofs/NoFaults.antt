@@ -13,7 +13,7 @@ use Rattle.numbers.specs.Limits.{mostBytes}
 use Rattle.numbers.proofs.Tests.{&&-intro, &&-fst, &&-snd, T→≡true, Tnot→≡false}
 use Rattle.table.specs.Records.{recordSize, recordCount}
 use Rattle.answers.specs.Sections.{variablesAt, slotsAt, arraysAt, nodesAt, constraintsAt, restAt, variableCount, slotCount, nodeCount, constraintCount}
-use Rattle.answers.specs.Check.{firstFault, headerFault, variableFault, slotFault, arraysFault, nodeFault, constraintFault, restFault, lengthAllowed, lengthFault, checkFault}
+use Rattle.answers.specs.Check.{headerFault, variableFault, slotFault, arraysFault, nodeFault, constraintFault, restFault, lengthAllowed, lengthFault, checkFault}
 use Rattle.answers.proofs.Faults.{orElse-none, none-orElse, none-cond, none-cond-not, firstFault-none, none-firstFault}
 
 -- a length that is allowed: neither too short nor too long, in whole records
@@ -59,16 +59,16 @@ module _ (bs : List ℕ) where
   pub checkFault→NoFaults : checkFault bs ≡ none → NoFaults bs
   unfolding checkFault restFault
   checkFault→NoFaults h =
-      let a = none-orElse (lengthFault bs) _ h in
-      let b = none-orElse (firstFault (λ i. headerFault bs 0) 0 1) _ (a .1) in
-      let c = none-orElse (firstFault (λ i. variableFault bs i (variablesAt bs + i)) (variablesAt bs) (variableCount bs)) _ (b .1) in
-      let d = none-orElse (firstFault (λ i. slotFault bs i (slotsAt bs + i)) (slotsAt bs) (slotCount bs)) _ (c .1) in
-      let e = none-orElse (arraysFault bs (recordCount bs) 0 (arraysAt bs)) _ (d .1) in
-      let f = none-orElse (firstFault (λ n. nodeFault bs n (nodesAt bs + n)) (nodesAt bs) (nodeCount bs)) _ (e .1) in
-      let g = none-orElse (firstFault (λ i. constraintFault bs (constraintsAt bs + i)) (constraintsAt bs) (constraintCount bs)) _ (f .1) in
+      let a = none-orElse _ _ h in
+      let b = none-orElse _ _ (a .1) in
+      let c = none-orElse _ _ (b .1) in
+      let d = none-orElse _ _ (c .1) in
+      let e = none-orElse _ _ (d .1) in
+      let f = none-orElse _ _ (e .1) in
+      let g = none-orElse _ _ (f .1) in
       record {
         length-allowed = lengthFault→LengthAllowed (a .0);
-        header-none = none-firstFault (λ i. headerFault bs 0) 0 1 (b .0) 0 (omega arith);
+        header-none = none-firstFault _ 0 1 (b .0) 0 (omega arith);
         variables-none = none-firstFault _ (variablesAt bs) (variableCount bs) (c .0);
         slots-none = none-firstFault _ (slotsAt bs) (slotCount bs) (d .0);
         arrays-none = e .0;

@@ -7,7 +7,6 @@ use mathlib.Core.Bool.{_&&_}
 use mathlib.Core.List.{List, [], _∷_}
 use mathlib.Core.Option.{Option, none, some, Option·some-ne-none}
 use lib.Dec.{eqb, eqb→eq, eqb-refl}
-use lib.IntN.{ℤ}
 use Rattle.numbers.proofs.Tests.{&&-intro, &&-fst, &&-snd}
 use Rattle.language.specs.Syntax.{Declarations}
 use Rattle.language.specs.Tables.{Row}
@@ -16,7 +15,7 @@ use Rattle.rules.proofs.Adding.{RowsFit-++}
 use Rattle.table.specs.Records.{kindAt, auxAt, xAt, yAt}
 use Rattle.table.specs.Kinds.{Field, Kind, kindOf}
 use Rattle.answers.specs.Sections.{listed, declarations, rowOf}
-use Rattle.answers.specs.Check.{unless, fieldAllowed, fieldNames, fieldTyped, kindFault, nodeFault}
+use Rattle.answers.specs.Check.{fieldAllowed, fieldNames, fieldTyped, kindFault, nodeFault}
 use Rattle.answers.proofs.Faults.{orElse-none, none-orElse, unless-none, none-unless}
 use Rattle.answers.proofs.KindsFit.{FieldFits, kindOf-fits}
 use Rattle.answers.proofs.Fields.{rowsBelow, passed→FieldFits, FieldFits→passed}
@@ -34,8 +33,8 @@ module _ (bs : List ℕ) (n p : ℕ) where
   kindFault-none→NodePassed : (k : Kind) → kindOf (kindAt bs p) ≡ some k → kindFault bs n k p ≡ none → NodePassed bs n p
   unfolding kindFault
   kindFault-none→NodePassed k e h =
-      let first = none-orElse (unless 3 _) _ h in
-      let second = none-orElse (unless 4 _) _ (first .1) in
+      let first = none-orElse _ _ h in
+      let second = none-orElse _ _ (first .1) in
       let allowed = none-unless 3 _ (first .0) in
       let named = none-unless 4 _ (second .0) in
       let typed = none-unless 5 _ (second .1) in
@@ -67,7 +66,7 @@ module _ (bs : List ℕ) (n p : ℕ) where
       let y = FieldFits→passed bs n Y (yAt bs p) (h .y-fits) in
       rw (h .kind-is, nodeFault)
       (orElse-none
-      (unless-none 3 (eqb (auxAt bs p) 0 && fieldAllowed bs X (xAt bs p) && fieldAllowed bs Y (yAt bs p))
+      (unless-none 3 _
       (&&-intro (eqb (auxAt bs p) 0 && fieldAllowed bs X (xAt bs p)) _ (&&-intro (eqb (auxAt bs p) 0) _ (rw (h .aux-is) (eqb-refl 0)) (x .0)) (y .0)))
       (orElse-none (unless-none 4 _ (&&-intro (fieldNames bs n X (xAt bs p)) _ (x .1) (y .1)))
       (unless-none 5 _ (&&-intro (fieldTyped bs X (xAt bs p)) _ (x .2) (y .2)))))

@@ -5,21 +5,19 @@ use Prim.Native.Nat.{ℕ, _+_, _*_, _-_, _≤_, _<_}
 use native.Mathlib.Nat.{le-of-mul-le-mul-left, mul-one}
 use native.Mathlib.Omega.{arith}
 use native.Mathlib.Decide.{decLe, decLt}
-use mathlib.Core.Bool.{Bool, _&&_}
 use mathlib.Core.List.{List}
 use mathlib.Core.Option.{none}
-use lib.Dec.{T, eqb, leb, ltb, ltb→lt}
+use lib.Dec.{T, ltb→lt}
 use lib.IntN.{natAbs}
 use lib.ListN.{length}
-use Rattle.numbers.specs.Limits.{mostBytes, mostVariables, mostSlots, mostArrays, mostSlotValues}
+use Rattle.numbers.specs.Limits.{mostBytes, mostVariables, mostSlots, mostArrays}
 use Rattle.numbers.proofs.Tests.{&&-fst}
 use Rattle.language.specs.Syntax.{boolean}
-use Rattle.language.specs.Meaning.{count}
 use Rattle.rules.specs.Soundness.{All, IsNode, WellFormed}
-use Rattle.table.specs.Records.{Mark, VR, SL, AR, EL, ND, CN, recordSize, recordCount, marked, kindAt, auxAt, xAt, yAt}
+use Rattle.table.specs.Records.{Mark, VR, SL, AR, EL, ND, CN, recordSize, recordCount, marked, xAt}
 use Rattle.table.proofs.Marks.{0<recordSize, length-records, marked→<recordCount}
-use Rattle.answers.specs.Sections.{endOf, variablesAt, slotsAt, arraysAt, nodesAt, constraintsAt, restAt, variableCount, slotCount, arrayRecords, nodeCount, constraintCount, slotOf, declarations, rows, constraints}
-use Rattle.answers.specs.Check.{isKind, near, domainAllowed, headerFault, variableFault, slotFault, nodeFault, constraintFault, checkFault}
+use Rattle.answers.specs.Sections.{endOf, variablesAt, slotsAt, arraysAt, nodesAt, constraintsAt, restAt, variableCount, slotCount, arrayRecords, nodeCount, constraintCount, declarations, rows, constraints}
+use Rattle.answers.specs.Check.{headerFault, variableFault, slotFault, nodeFault, constraintFault, checkFault}
 use Rattle.answers.proofs.NoFaults.{LengthAllowed, NoFaults, checkFault→NoFaults}
 use Rattle.answers.proofs.Faults.{none-unless}
 use Rattle.answers.proofs.Listed.{All-listed}

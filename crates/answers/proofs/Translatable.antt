@@ -5,11 +5,11 @@ use Prim.Native.Nat.{ℕ, _+_, _*_, _≤_, _<_}
 use mathlib.Core.Bool.{Bool, true, false, cond, _&&_}
 use mathlib.Core.List.{List}
 use mathlib.Core.Option.{none}
-use lib.Dec.{T, eqb, leb, ltb, leb→le}
+use lib.Dec.{T, eqb, leb, leb→le}
 use lib.IntN.{ℤ, pos}
 use lib.ListN.{length}
 use lib.Signed.{leZ, leZ-yes, _≤ℤ_}
-use Rattle.numbers.specs.Limits.{mostBytes, mostVariables}
+use Rattle.numbers.specs.Limits.{mostBytes}
 use Rattle.numbers.specs.Whole.{eqZ}
 use Rattle.numbers.proofs.Tests.{&&-fst, &&-snd}
 use Rattle.numbers.proofs.Division.{eqZ→≡}
@@ -18,9 +18,9 @@ use Rattle.language.specs.Tables.{treeAt}
 use Rattle.language.proofs.Trees.{length-trees}
 use Rattle.rules.specs.Bounds.{variableAt, withinBounds}
 use Rattle.rules.specs.Soundness.{Bounded}
-use Rattle.table.specs.Records.{recordSize, kindAt, auxAt, xAt, yAt}
+use Rattle.table.specs.Records.{recordSize, kindAt, xAt, yAt}
 use Rattle.answers.specs.Sections.{variablesAt, nodesAt, variableCount, declarations, rows, variableOf, nodeTrees}
-use Rattle.answers.specs.Check.{isZero, isKind, domainAllowed, variableFault, checkFault}
+use Rattle.answers.specs.Check.{isZero, domainAllowed, variableFault, checkFault}
 use Rattle.answers.specs.Answers.{boundsFault, newCount, roomFault, translationFault}
 use Rattle.answers.proofs.Faults.{none-orElse, none-unless, none-cond, none-firstFault}
 use Rattle.answers.proofs.Listed.{All-at}
@@ -47,9 +47,8 @@ module _ (bs : List ℕ) where
     roomFault→few : (room : ℕ) → roomFault bs ρ room ≡ none → recordSize * newCount bs ρ ≤ mostBytes
     unfolding roomFault
     roomFault→few room h =
-        let a : Bool = leb (recordSize * newCount bs ρ) room in
-        let b : Bool = leb (recordSize * newCount bs ρ) mostBytes in
-        leb→le (recordSize * newCount bs ρ) mostBytes (&&-snd a b (none-cond (a && b) _ h))
+        let passed = none-cond (leb (recordSize * newCount bs ρ) room && leb (recordSize * newCount bs ρ) mostBytes) _ h in
+        leb→le (recordSize * newCount bs ρ) mostBytes (search &&-snd)
 
     -- A table with none of the three faults is translated,
     pub none→Translatable : (room : ℕ) → checkFault bs ≡ none → boundsFault bs ≡ none → roomFault bs ρ room ≡ none → Translatable bs ρ
@@ -61,8 +60,8 @@ module _ (bs : List ℕ) where
     pub translationFault→Translatable : (room : ℕ) → translationFault bs ρ room ≡ none → Translatable bs ρ
     unfolding translationFault
     translationFault→Translatable room h =
-        let a = none-orElse (checkFault bs) _ h in
-        let b = none-orElse (boundsFault bs) _ (a .1) in
+        let a = none-orElse _ _ h in
+        let b = none-orElse _ _ (a .1) in
         none→Translatable room (a .0) (b .0) (b .1)
 
   -- ---- domains
@@ -79,10 +78,7 @@ module _ (bs : List ℕ) where
   -- So the domain of a variable without a fault is not empty.
   variableFault→≤ : (i p : ℕ) → variableFault bs i p ≡ none → xAt bs p ≤ℤ yAt bs p
   unfolding variableFault
-  variableFault→≤ i p h =
-      let a : Bool = ltb i mostVariables && isKind (kindAt bs p) && eqb (auxAt bs p) 0 in
-      let d : Bool = domainAllowed bs (kindAt bs p) (xAt bs p) (yAt bs p) in
-      domainAllowed→≤ (kindAt bs p) (xAt bs p) (yAt bs p) (&&-snd a d (none-unless 3 (a && d) h))
+  variableFault→≤ i p h = let passed = none-unless 3 _ h in domainAllowed→≤ (kindAt bs p) (xAt bs p) (yAt bs p) (search &&-snd)
 
   -- No variable of a table that has passed has an empty domain.
   pub Passed→domains : Passed bs → (v : ℕ) → v < length (declarations bs .variables) → variableAt (declarations bs) v .low ≤ℤ variableAt (declarations bs) v .high

@@ -47,7 +47,8 @@ module _ (ρ : Reading) (Γ : Declarations) (α : Assignment) where
         &&-intro (calmI ρ Γ α i σ) (calmValue (valueI ρ Γ α (lookup A i) σ)) (calm-total-I i (h .0) σ f) (calm-value (lookup A i) (h .1) σ f)
     calm-total-I (sum s a) h σ f =
         &&-intro (throughout (slotAt Γ s .low) (count (slotAt Γ s)) (λ d. calmI ρ Γ α a (put σ s d))) (calmValue (valueI ρ Γ α (sum s a) σ))
-        (throughout-all (slotAt Γ s .low) (count (slotAt Γ s)) (λ d. calmI ρ Γ α a (put σ s d)) (λ k l. calm-total-I a (h .0) (put σ s (slotAt Γ s .low +ℤ pos k)) (put-fits f s k l)))
+        (throughout-all (slotAt Γ s .low) (count (slotAt Γ s)) (λ d. calmI ρ Γ α a (put σ s d))
+        (λ k l. calm-total-I a (h .0) (put σ s (slotAt Γ s .low +ℤ pos k)) (put-fits f s k l)))
         (calm-value (sum s a) (h .1) σ f)
     calm-total-I (iref r) h σ f = absurd r
 
@@ -60,7 +61,8 @@ module _ (ρ : Reading) (Γ : Declarations) (α : Assignment) where
     calm-total-B (negation a) h σ f = calm-total-B a (h .0) σ f
     calm-total-B (compare c a b) h σ f = &&-intro (calmI ρ Γ α a σ) (calmI ρ Γ α b σ) (calm-total-I a (h .0) σ f) (calm-total-I b (h .1) σ f)
     calm-total-B (quantify q s a) h σ f =
-        throughout-all (slotAt Γ s .low) (count (slotAt Γ s)) (λ d. calmB ρ Γ α a (put σ s d)) (λ k l. calm-total-B a (h .0) (put σ s (slotAt Γ s .low +ℤ pos k)) (put-fits f s k l))
+        throughout-all (slotAt Γ s .low) (count (slotAt Γ s)) (λ d. calmB ρ Γ α a (put σ s d))
+        (λ k l. calm-total-B a (h .0) (put σ s (slotAt Γ s .low +ℤ pos k)) (put-fits f s k l))
     calm-total-B (bref r) h σ f = absurd r
 
 -- A walk over P of a Boolean node meets no number beyond the limit, whatever the reading.
