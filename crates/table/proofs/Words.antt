@@ -4,12 +4,12 @@ use mathlib.Core.Path.{_≡_, ap, _∙_}
 use Prim.Native.Nat.{ℕ, _+_, _*_, _-_, _/_, _%_, _≤_, _<_}
 use native.Mathlib.Nat.{div-div-eq-div-mul}
 use native.Mathlib.Omega.{arith}
-use lib.Arith.{le→nltb}
-use lib.Dec.{ltb, ltb→lt, lt→ltb, nltb→le}
+use lib.Dec.{ltb, ltb→lt, nltb→le}
 use lib.IntN.{ℤ, pos, negsuc}
 use lib.Signed.{mag}
-use Rattle.numbers.proofs.Tests.{cond-cases, T→≡true, Tnot→≡false}
+use Rattle.numbers.proofs.Tests.{cond-cases}
 use Rattle.table.specs.Records.{signed, bitsOf}
+use Rattle.table.proofs.Signs.{signed-low, signed-high}
 
 -- z is a signed number of 32 bits
 abbrev pub InWord : ℤ → Type 0
@@ -31,10 +31,9 @@ bitsOf-below (negsuc n) h = omega arith
 
 -- and they stand for it.
 signed-bitsOf : (z : ℤ) → InWord z → signed (bitsOf z) ≡ z
-unfolding signed bitsOf
-signed-bitsOf (pos n) h = rw (T→≡true (ltb n 0x8000_0000) (lt→ltb n 0x8000_0000 h))
-signed-bitsOf (negsuc n) h =
-    rw (Tnot→≡false (ltb (0xffff_ffff - n) 0x8000_0000) (le→nltb (0xffff_ffff - n) 0x8000_0000 (omega arith))) (ap negsuc (omega arith))
+unfolding bitsOf
+signed-bitsOf (pos n) h = signed-low n h
+signed-bitsOf (negsuc n) h = signed-high (0xffff_ffff - n) (omega arith) ∙ ap negsuc (omega arith)
 
 -- Four bytes of 32 bits, low byte first, make up the word.
 bytes-word : (w : ℕ) → w < 0x1_0000_0000 → w % 256 + 256 * (w / 256 % 256 + 256 * (w / 65_536 % 256 + 256 * (w / 16_777_216 % 256))) ≡ w
