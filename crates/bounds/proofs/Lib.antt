@@ -1,0 +1,4 @@
+pub mod Declared
+pub mod Filled
+pub mod Nodes
+pub mod Spans

@@ -1,0 +1,18 @@
+use Rattle.bounds.proofs.Spans.{below-limit, not-below-limit}
+use mir.Facts.{toZ-ofZ}
+use borrow.Author.Needs.{needs}
+use Rattle.bounds.proofs.ends.within.Statement.{statement}
+use Rattle.bounds.proofs.ends.within.Tie as tie
+use Rattle.bounds.proofs.ends.within.Reads as reads
+use Rattle.bounds.proofs.ends.within.Lts as lts
+
+-- src/ends.rt:195:9
+returns : tie.Need-returns
+returns c = below-limit _ (rw (toZ-ofZ (c .before .fits .z)) at (c .if1 .taken))
+
+-- src/ends.rt:191:1
+returns-2 : tie.Need-returns-2
+returns-2 c = rw (toZ-ofZ (c .before .fits .z)) (not-below-limit _ (rw (toZ-ofZ (c .before .fits .z)) at (c .if1 .left)))
+
+pub within-spec : {M : Type 1} → statement M
+within-spec = tie.close (tie.spec returns returns-2)

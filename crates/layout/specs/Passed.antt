@@ -1,0 +1,16 @@
+-- What the sections of a checked table owe to the check: whole records, few arrays, and elements that end within the table.
+-- Assumes nothing.
+use mathlib.Core.Path.{_≡_}
+use Prim.Native.Nat.{ℕ, _%_, _≤_}
+use mathlib.Core.List.{List}
+use lib.ListN.{length}
+use Rattle.numbers.specs.Limits.{mostBytes, mostArrays}
+use Rattle.table.specs.Records.{recordSize, recordCount}
+use Rattle.answers.specs.Sections.{arrayRecords, nodesAt}
+
+pub record Passed (bs : List ℕ) : Type 0 where
+  pub some-record : recordSize ≤ length bs
+  pub whole : length bs % recordSize ≡ 0
+  pub short : length bs ≤ mostBytes
+  pub few-arrays : length (arrayRecords bs) ≤ mostArrays
+  pub inside : nodesAt bs ≤ recordCount bs
