@@ -90,5 +90,5 @@ module _ (bs : List ℕ) where
   hulls-of {a = a} l h all =
       record {
         low = λ k. ⊎-elim (λ m. l .before k m) (λ m. l .after k m ∙ sym (ap (λ i. i .low) (no-array-elements k (omega arith)))) (lt-or-ge k a);
-        high = λ k. ⊎-elim (λ m. h .before k m) (λ m. h .after k m ∙ sym (ap (λ i. i .high) (no-array-elements k (omega arith)))) (lt-or-ge k a)
+        high = λ k. ⊎-elim (λ m. h .before k m) (λ m. h .after k m ∙ sym (ap (λ i. i .high) (no-array-elements k (omega arith)))) (lt-or-ge k a);
       }

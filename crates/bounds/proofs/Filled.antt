@@ -27,7 +27,7 @@ module _ (size : ℕ) (f : ℕ → ℤ) where
       record {
         sized = length-set xs n v ∙ w .sized;
         before = λ k l. ⊎-elim (λ m. getD-set-other xs n k v (pos 0) (λ z. omega arith) ∙ w .before k m) (λ m. at-n k (omega arith)) (lt-or-ge k n);
-        after = λ k l. getD-set-other xs n k v (pos 0) (λ z. omega arith) ∙ w .after k (omega arith)
+        after = λ k l. getD-set-other xs n k v (pos 0) (λ z. omega arith) ∙ w .after k (omega arith);
       }
     where
       at-n : (k : ℕ) → k ≡ n → getD (set xs n v) k (pos 0) ≡ f k

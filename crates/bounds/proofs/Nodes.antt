@@ -161,7 +161,7 @@ module _ (bs : List ℕ) where
         low = λ k. ⊎-elim (λ m. l .before k m ∙ sym (ap (λ i. i .low) (tree-ends n k m))) (λ m. l .after k m ∙ sym (ap (λ i. i .low) (no-tree-ends n k m))) (lt-or-ge k n);
         high = λ k. ⊎-elim (λ m. h .before k m ∙ sym (ap (λ i. i .high) (tree-ends n k m))) (λ m. h .after k m ∙ sym (ap (λ i. i .high) (no-tree-ends n k m))) (lt-or-ge k n);
         small-low = λ k. ⊎-elim (λ m. rw (l .before k m) (leb→le _ _ (&&-fst (withinLimit (nodeEnds bs k .low)) (withinLimit (nodeEnds bs k .high)) (w k m)))) (λ m. rw (l .after k m) (omega arith)) (lt-or-ge k n);
-        small-high = λ k. ⊎-elim (λ m. rw (h .before k m) (leb→le _ _ (&&-snd (withinLimit (nodeEnds bs k .low)) (withinLimit (nodeEnds bs k .high)) (w k m)))) (λ m. rw (h .after k m) (omega arith)) (lt-or-ge k n)
+        small-high = λ k. ⊎-elim (λ m. rw (h .before k m) (leb→le _ _ (&&-snd (withinLimit (nodeEnds bs k .low)) (withinLimit (nodeEnds bs k .high)) (w k m)))) (λ m. rw (h .after k m) (omega arith)) (lt-or-ge k n);
       }
 
 -- ---- the first node beyond the limit
@@ -199,9 +199,10 @@ module _ (bs : List ℕ) where
     unfolding unless
     passing-more few e f t =
         record {
-          low = filled-more _ _ (w .low) few e; high = filled-more _ _ (w .high) few f;
+          low = filled-more _ _ (w .low) few e;
+          high = filled-more _ _ (w .high) few f;
           inside = λ k l. ⊎-elim (λ m. w .inside k m) (λ m. let z : k ≡ n = omega arith in rw (z, t) tt) (lt-or-ge k n);
-          no-fault = none-more ownFault (nodesAt bs) n (w .no-fault) (own-fault n h ∙ ap (unless 8) t)
+          no-fault = none-more ownFault (nodesAt bs) n (w .no-fault) (own-fault n h ∙ ap (unless 8) t);
         }
 
     pub beyond-at : (withinLimit (nodeEnds bs n .low) && withinLimit (nodeEnds bs n .high)) ≡ false → refuse 8 (nodesAt bs + n) ≡ boundsFault bs

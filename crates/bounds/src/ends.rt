@@ -19,21 +19,13 @@ pub struct Ends {
 fn least(a: i64, b: i64) -> i64
     ensures { λ r. ⌜ r ≡ Whole.least a b ⌝ }
 {
-    if a <= b {
-        a
-    } else {
-        b
-    }
+    if a <= b { a } else { b }
 }
 
 fn greatest(a: i64, b: i64) -> i64
     ensures { λ r. ⌜ r ≡ Whole.greatest a b ⌝ }
 {
-    if a <= b {
-        b
-    } else {
-        a
-    }
+    if a <= b { b } else { a }
 }
 
 // The magnitude of a number within the limit.
@@ -41,11 +33,7 @@ fn magnitude(a: i64) -> i64
     requires { ⌜ natAbs a ≤ limit ⌝ }
     ensures { λ r. ⌜ r ≡ pos (natAbs a) ⌝ }
 {
-    if a < 0 {
-        0 - a
-    } else {
-        a
-    }
+    if a < 0 { 0 - a } else { a }
 }
 
 // x..x.
@@ -129,7 +117,10 @@ pub fn quotients(i: Ends, j: Ends) -> Ends
     ensures { λ r. ⌜ span r ≡ Bounds.divideInterval Syntax.quot (span i) (span j) ⌝ }
 {
     let m = largest(i);
-    Ends { low: 0 - m, high: m }
+    Ends {
+        low: 0 - m,
+        high: m,
+    }
 }
 
 pub fn remainders(i: Ends, j: Ends) -> Ends
@@ -140,7 +131,10 @@ pub fn remainders(i: Ends, j: Ends) -> Ends
     if m < 1 {
         Ends { low: 0, high: 0 }
     } else {
-        Ends { low: 0, high: m - 1 }
+        Ends {
+            low: 0,
+            high: m - 1,
+        }
     }
 }
 
@@ -202,9 +196,5 @@ fn within(z: i64) -> bool
 pub fn within_limit(i: Ends) -> bool
     ensures { λ r. ⌜ r ≡ (Whole.withinLimit (i .low) && Whole.withinLimit (i .high)) ⌝ }
 {
-    if within(i.low) {
-        within(i.high)
-    } else {
-        false
-    }
+    if within(i.low) { within(i.high) } else { false }
 }

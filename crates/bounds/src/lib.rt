@@ -13,11 +13,27 @@ ghost use Rattle.layout.specs.Passed.{Passed};
 ghost use Rattle.layout.specs.Places.{layoutOf};
 ghost use Rattle.bounds.specs.Spans.{span, asSlot, Narrow};
 ghost use Rattle.bounds.specs.Kept.{keptAt, treesBefore, nodeEnds, Kept, Hulls, refusalOf};
-
-use crate::ends::{greater, hull, lesser, minus, negated, only, plus, quotients, remainders, slot_values, summed, times};
-use crate::ends::{within_limit, Ends};
-use layout::fields::{kind_at, name_x, name_y, x_at, y_at};
-use layout::{array_records, Layout};
+use crate::ends::Ends;
+use crate::ends::greater;
+use crate::ends::hull;
+use crate::ends::lesser;
+use crate::ends::minus;
+use crate::ends::negated;
+use crate::ends::only;
+use crate::ends::plus;
+use crate::ends::quotients;
+use crate::ends::remainders;
+use crate::ends::slot_values;
+use crate::ends::summed;
+use crate::ends::times;
+use crate::ends::within_limit;
+use layout::Layout;
+use layout::array_records;
+use layout::fields::kind_at;
+use layout::fields::name_x;
+use layout::fields::name_y;
+use layout::fields::x_at;
+use layout::fields::y_at;
 
 pub mod ends;
 
@@ -101,11 +117,7 @@ fn elements(s: &[u8], at: Layout, p: usize) -> Ends
 fn kept(ends: &[i64], k: usize) -> i64
     ensures { λ r. ⌜ r ≡ getD (now (ends .entry)) k (pos 0) ⌝ }
 {
-    if k < ends.len() {
-        ends[k]
-    } else {
-        0
-    }
+    if k < ends.len() { ends[k] } else { 0 }
 }
 
 // The interval that is kept at k: 0..0 where there is none.

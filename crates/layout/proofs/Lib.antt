@@ -1,3 +1,4 @@
+pub mod Checked
 pub mod FirstFaults
 pub mod Numbered
 pub mod Order

@@ -76,10 +76,14 @@ module _ (bs : List ℕ) where
   unfolding variablesAt slotsAt arraysAt nodesAt constraintsAt restAt endOf recordCount recordSize
   ordered p =
       record {
-        variables = run-≥ VR _ _; slots = run-≥ SL _ _; arrays = arrays-≥ _ _; inside = p .inside; nodes = run-≥ ND _ _;
+        variables = run-≥ VR _ _;
+        slots = run-≥ SL _ _;
+        arrays = arrays-≥ _ _;
+        inside = p .inside;
+        nodes = run-≥ ND _ _;
         constraints = run-≥ CN _ _;
         rest = run-≤ CN (p .whole) _ _ (run-≤ ND (p .whole) _ _ (p .inside));
-        few = omega (arith, p .short)
+        few = omega (arith, p .short);
       }
 
 -- The places that the code holds are those of the sections, in order.
@@ -95,7 +99,11 @@ pub record Laid (bs : List ℕ) (at : Layout) : Type 0 where
 pub laid : (bs : List ℕ) {at : Layout} → Passed bs → at ≡ layoutOf bs → Laid bs at
 laid bs p e =
     record {
-      slots = ap (λ (l : Layout). l .slots) e; arrays = ap (λ (l : Layout). l .arrays) e; tally = ap (λ (l : Layout). l .tally) e;
-      nodes = ap (λ (l : Layout). l .nodes) e; constraints = ap (λ (l : Layout). l .constraints) e; rest = ap (λ (l : Layout). l .rest) e;
-      order = ordered bs p
+      slots = ap (λ (l : Layout). l .slots) e;
+      arrays = ap (λ (l : Layout). l .arrays) e;
+      tally = ap (λ (l : Layout). l .tally) e;
+      nodes = ap (λ (l : Layout). l .nodes) e;
+      constraints = ap (λ (l : Layout). l .constraints) e;
+      rest = ap (λ (l : Layout). l .rest) e;
+      order = ordered bs p;
     }

@@ -35,7 +35,7 @@ module _ (bs : List ℕ) (from : ℕ) where
         record {
           behind = omega (arith, w .behind);
           counted = w .counted ∙ rw (l, records-more bs _ _ p f e) (omega arith);
-          ends = w .ends ∙ rw (l, arrays-more bs _ _ p f e)
+          ends = w .ends ∙ rw (l, arrays-more bs _ _ p f e);
         }
 
     pub walked-all : marked bs AR p ≡ false → record { count = count; end = p } ≡ arraysOf bs from
@@ -89,13 +89,15 @@ module _ (bs : List ℕ) where
           sized = length-set places n p ∙ w .sized;
           before = λ a l. ⊎-elim (λ m. getD-set-other places n a p 0 (λ z. omega arith) ∙ w .before a m) (λ m. at-n a (omega arith)) (lt-or-ge a n);
           after = λ a l. getD-set-other places n a p 0 (λ z. omega arith) ∙ w .after a (omega arith);
-          rest = rw e (ap (λ m. drop m (arrayRecords bs)) (add-one n) ∙ tail-of split)
+          rest = rw e (ap (λ m. drop m (arrayRecords bs)) (add-one n) ∙ tail-of split);
         }
       where
         head-of : {a b : ℕ} {xs ys : List ℕ} → a ∷ xs ≡ b ∷ ys → a ≡ b
         head-of e = cc
+
         tail-of : {a b : ℕ} {xs ys : List ℕ} → a ∷ xs ≡ b ∷ ys → xs ≡ ys
         tail-of e = cc
+
         at-n : (a : ℕ) → a ≡ n → getD (set places n p) a 0 ≡ getD (arrayRecords bs) a 0
         at-n a z = rw z (getD-set-same places n p 0 (omega (arith, w .sized)) ∙ sym (head-of split))
 

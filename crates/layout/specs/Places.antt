@@ -19,9 +19,13 @@ arraysOf bs p = record { count = length (arraysFrom bs (recordCount bs) p); end 
 
 abbrev pub layoutOf : List ℕ → Layout
 layoutOf bs = record {
-    slots = slotsAt bs; arrays = arraysAt bs; tally = length (arrayRecords bs); nodes = nodesAt bs;
-    constraints = constraintsAt bs; rest = restAt bs
-  }
+  slots = slotsAt bs;
+  arrays = arraysAt bs;
+  tally = length (arrayRecords bs);
+  nodes = nodesAt bs;
+  constraints = constraintsAt bs;
+  rest = restAt bs;
+}
 
 -- the record of each array, 0 past the last one
 pub record ArraysHeld (bs places : List ℕ) : Type 0 where

@@ -7,8 +7,8 @@ ghost use Rattle.table.specs.Records.{recordSize};
 ghost use Rattle.answers.specs.Sections.{arraysAt, arrayRecords};
 ghost use Rattle.layout.specs.Passed.{Passed};
 ghost use Rattle.layout.specs.Places.{EndOfRun, arraysOf, layoutOf, ArraysHeld};
-
-use crate::fields::{marked, name_y};
+use crate::fields::marked;
+use crate::fields::name_y;
 
 pub mod fields;
 

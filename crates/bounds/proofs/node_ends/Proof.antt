@@ -1,7 +1,6 @@
 use mathlib.Core.List.{List}
 use lib.ListN.{getD}
 use lib.IntN.{pos, natAbs}
-
 use Rattle.bounds.proofs.Nodes.{operand-is, operand-small}
 use Rattle.bounds.proofs.Nodes as Nodes
 use Rattle.bounds.proofs.Spans.{to-cong}
@@ -15,7 +14,6 @@ use Rattle.rules.specs.Bounds.{Interval, only, arithInterval, divideInterval, s
 use Rattle.language.specs.Meaning.{arrayAt, count, slotAt}
 use Rattle.language.specs.Tables.{treeI}
 use Rattle.language.specs.Syntax.{plus, minus, times, least, most, quot, rem, Slot}
-
 use mir.Facts.{toZ-ofZ}
 use native.Mathlib.Omega.{arith}
 use Prim.Native.Nat.{ℕ, _+_, _<_}
