@@ -1,10 +1,8 @@
 //! Checking, evaluating and translating allocate nothing.
 
-mod common;
-
 use barfigol_peer::{check, evaluate, translate};
+use barfigol_tables::calls::{CHOICES, MOST_BYTES};
 use barfigol_tables::{limits, trials};
-use common::{CHOICES, MOST_BYTES};
 use std::alloc::{GlobalAlloc, Layout, System};
 use std::cell::Cell;
 

@@ -304,6 +304,24 @@ impl Table {
         rows
     }
 
+    /// All assignments, the last variable changing fastest. Domains are taken
+    /// to be small.
+    pub fn assignments(&self) -> Vec<Vec<i32>> {
+        let mut all = vec![Vec::new()];
+        for variable in &self.variables {
+            let longer = |start: &Vec<i32>| {
+                let start = start.clone();
+                (variable.low..=variable.high).map(move |value| {
+                    let mut next = start.clone();
+                    next.push(value);
+                    next
+                })
+            };
+            all = all.iter().flat_map(longer).collect();
+        }
+        all
+    }
+
     /// The bytes of the table.
     pub fn bytes(&self) -> Vec<u8> {
         bytes_of(&self.rows())

@@ -400,18 +400,31 @@ fn free_slot(random: &mut Random, table: &Table) -> (Vec<u8>, usize) {
 /// ```
 pub fn shrink(bytes: &[u8], fails: &mut dyn FnMut(&[u8]) -> bool) -> Vec<u8> {
     let mut smallest = bytes.to_vec();
-    'again: loop {
-        let rows = rows_of(&smallest);
-        for record in (0..rows.len()).rev() {
-            let mut fewer = rows.clone();
-            fewer.remove(record);
-            for candidate in [recounted(fewer.clone()), bytes_of(&fewer)] {
-                if fails(&candidate) {
-                    smallest = candidate;
-                    continue 'again;
-                }
+    let mut block = smallest.len() / ROW_BYTES / 2 + 1;
+    loop {
+        match without_block(&smallest, block, fails) {
+            Some(fewer) => smallest = fewer,
+            None if block == 1 => return smallest,
+            None => block = (block + 1) / 2,
+        }
+    }
+}
+
+/// Leaves out some neighbouring records, the last ones first.
+fn without_block(
+    bytes: &[u8],
+    block: usize,
+    fails: &mut dyn FnMut(&[u8]) -> bool,
+) -> Option<Vec<u8>> {
+    let rows = rows_of(bytes);
+    for start in (0..rows.len()).step_by(block).rev() {
+        let mut fewer = rows.clone();
+        fewer.drain(start..rows.len().min(start + block));
+        for candidate in [recounted(fewer.clone()), bytes_of(&fewer)] {
+            if fails(&candidate) {
+                return Some(candidate);
             }
         }
-        return smallest;
     }
+    None
 }

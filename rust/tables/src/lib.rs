@@ -3,12 +3,16 @@
 //! [`Table`] is a readable builder. [`trials`] holds the worked examples,
 //! [`limits`] tables at the edges of what is allowed, [`random`] seeded sound
 //! tables of every kind, [`damage`] faulty ones, and [`shrink`] makes a failing
-//! table smaller. Nothing here checks or evaluates a table.
+//! table smaller. [`cases`] makes whole calls, and [`suite`] holds the trials that
+//! every implementation of the [`calls`] has to pass. Nothing here checks or
+//! evaluates a table.
 
 #![forbid(unsafe_code)]
 #![warn(missing_docs)]
 
 mod builder;
+pub mod calls;
+pub mod cases;
 pub mod cost;
 pub mod damage;
 pub mod kinds;
@@ -17,6 +21,7 @@ mod prng;
 pub mod random;
 mod row;
 pub mod shrink;
+pub mod suite;
 pub mod trials;
 
 pub use builder::{Array, Element, Node, Slot, Table, Variable};

@@ -120,3 +120,31 @@ pub fn nested(sizes: &[i32]) -> Table {
     }
     table.constraint(node)
 }
+
+/// Tables on both sides of the limits, and the deepest and costliest ones.
+pub fn both_sides() -> Vec<Table> {
+    let mut tables = Vec::new();
+    tables.extend([256, 257].map(variables));
+    tables.extend([16, 17].map(slots));
+    tables.extend([64, 65].map(arrays));
+    tables.extend([0, 1, 1_024, 1_025].map(elements));
+    tables.extend([10_000, 10_001].map(slot_values));
+    tables.extend([2_501, 2_502, 5_000, 5_001].map(records));
+    for value in [2_000_000_000, i32::MAX] {
+        tables.extend([value, -value, value.wrapping_add(1), -value - 1].map(constant));
+    }
+    for depth in [0, 1, 4_900] {
+        let chains = [chain_of_nots, chain_of_adds, chain_of_types];
+        tables.extend(chains.map(|chain| chain(depth)));
+    }
+    tables.extend([10, 20, 31, 32, 64, 4_900].map(doubling));
+    let ranges: [&[i32]; 5] = [
+        &[10_000],
+        &[100, 0, 100],
+        &[100, 100, 100],
+        &[10_000; 16],
+        &[10_000, 10_000, 10_000, 0],
+    ];
+    tables.extend(ranges.map(nested));
+    tables
+}

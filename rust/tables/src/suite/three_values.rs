@@ -1,10 +1,27 @@
 //! Every connective, comparison, lookup, conversion and quantifier over true,
 //! false and undefined, against tables written down from the three semantics.
 
-mod common;
+use super::Trial;
+use crate::calls::{Calls, CHOICES, RELATIONAL};
+use crate::{Element, Node, Table, Type};
 
-use barfigol_tables::{Element, Node, Table, Type};
-use common::{verdict, CHOICES, RELATIONAL};
+/// All trials of this file.
+pub const TRIALS: &[Trial] = trials![
+    connectives,
+    not_of_each_value,
+    bool_to_int_of_each_value,
+    comparisons,
+    bool_lookups,
+    integer_lookups,
+    integer_operations_with_an_undefined_operand,
+    division_by_zero_is_undefined,
+    quantifiers,
+    sums,
+    the_innermost_binding_wins,
+    the_outer_setting_comes_back,
+    two_slots_do_not_mix,
+    a_shared_node_takes_each_binding,
+];
 
 /// The verdict byte of a letter: T, F, or U for undefined.
 fn byte(letter: char) -> u8 {
@@ -73,8 +90,7 @@ const CONNECTIVES: [Connective; 4] = [
     },
 ];
 
-#[test]
-fn connectives() {
+fn connectives(calls: &dyn Calls) {
     for connective in &CONNECTIVES {
         let tables = [connective.strict, connective.kleene, connective.relational];
         for (choice, expected) in CHOICES.into_iter().zip(tables) {
@@ -85,7 +101,7 @@ fn connectives() {
                     let b = push_truth(&mut table, right);
                     let node = table.push((connective.node)(a, b));
                     let kind = table.nodes[node as usize].kind;
-                    let found = verdict(choice, &table.constraint(node));
+                    let found = calls.verdict(choice, &table.constraint(node));
                     assert_eq!(found, byte(expected), "{left} {kind} {right}, {choice}");
                 }
             }
@@ -93,20 +109,21 @@ fn connectives() {
     }
 }
 
-#[test]
-fn not_of_each_value() {
+fn not_of_each_value(calls: &dyn Calls) {
     for (choice, expected) in CHOICES.into_iter().zip(["FTU", "FTU", "FTT"]) {
         for (operand, expected) in "TFU".chars().zip(expected.chars()) {
             let mut table = Table::new();
             let a = push_truth(&mut table, operand);
             let node = table.push(Node::not(a));
-            assert_eq!(verdict(choice, &table.constraint(node)), byte(expected));
+            assert_eq!(
+                calls.verdict(choice, &table.constraint(node)),
+                byte(expected)
+            );
         }
     }
 }
 
-#[test]
-fn bool_to_int_of_each_value() {
+fn bool_to_int_of_each_value(calls: &dyn Calls) {
     // Whether boolToInt equals 1, and whether it equals 0.
     let expected = [["TFU", "FTU"], ["TFU", "FTU"], ["TFF", "FTT"]];
     for (choice, expected) in CHOICES.into_iter().zip(expected) {
@@ -117,14 +134,16 @@ fn bool_to_int_of_each_value() {
                 let number = table.push(Node::bool_to_int(a));
                 let value = table.push(Node::constant(value));
                 let node = table.push(Node::equal(number, value));
-                assert_eq!(verdict(choice, &table.constraint(node)), byte(expected));
+                assert_eq!(
+                    calls.verdict(choice, &table.constraint(node)),
+                    byte(expected)
+                );
             }
         }
     }
 }
 
-#[test]
-fn comparisons() {
+fn comparisons(calls: &dyn Calls) {
     // Rows and columns go by −1, 0, 1 and undefined.
     let values = [Some(-1), Some(0), Some(1), None];
     type Comparison = (fn(i32, i32) -> Node, [&'static str; 4]);
@@ -141,7 +160,7 @@ fn comparisons() {
                 let a = push_integer(&mut table, left);
                 let b = push_integer(&mut table, right);
                 let node = table.push(comparison(a, b));
-                assert_atom(&table.constraint(node), expected);
+                assert_atom(calls, &table.constraint(node), expected);
             }
         }
     }
@@ -149,30 +168,32 @@ fn comparisons() {
 
 /// A comparison or Boolean lookup: where the other readings find it undefined,
 /// the relational one finds it false.
-fn assert_atom(table: &Table, expected: char) {
+fn assert_atom(calls: &dyn Calls, table: &Table, expected: char) {
     for choice in CHOICES {
         let expected = match expected {
             'U' if choice == RELATIONAL => 'F',
             letter => letter,
         };
-        assert_eq!(verdict(choice, table), byte(expected), "{choice} {table:?}");
+        assert_eq!(
+            calls.verdict(choice, table),
+            byte(expected),
+            "{choice} {table:?}"
+        );
     }
 }
 
-#[test]
-fn bool_lookups() {
+fn bool_lookups(calls: &dyn Calls) {
     let indices = [Some(-1), Some(0), Some(1), Some(2), Some(3), None];
     for (index, expected) in indices.into_iter().zip("UUTFUU".chars()) {
         let elements = [Element::Constant(1), Element::Constant(0)];
         let mut table = Table::new().array(Type::Bool, 1, &elements);
         let index = push_integer(&mut table, index);
         let node = table.push(Node::bool_lookup(0, index));
-        assert_atom(&table.constraint(node), expected);
+        assert_atom(calls, &table.constraint(node), expected);
     }
 }
 
-#[test]
-fn integer_lookups() {
+fn integer_lookups(calls: &dyn Calls) {
     // Array 7, 8 from index −1: is the element 8?
     let indices = [Some(-2), Some(-1), Some(0), Some(1), None];
     for (index, expected) in indices.into_iter().zip("UFTUU".chars()) {
@@ -181,12 +202,11 @@ fn integer_lookups() {
         let element = table.push(Node::lookup(0, index));
         let eight = table.push(Node::constant(8));
         let node = table.push(Node::equal(element, eight));
-        assert_atom(&table.constraint(node), expected);
+        assert_atom(calls, &table.constraint(node), expected);
     }
 }
 
-#[test]
-fn integer_operations_with_an_undefined_operand() {
+fn integer_operations_with_an_undefined_operand(calls: &dyn Calls) {
     let operations: [fn(i32, i32) -> Node; 7] = [
         Node::add,
         Node::subtract,
@@ -203,18 +223,17 @@ fn integer_operations_with_an_undefined_operand() {
             let b = push_integer(&mut table, right);
             let value = table.push(operation(a, b));
             let node = table.push(Node::equal(value, value));
-            assert_atom(&table.constraint(node), 'U');
+            assert_atom(calls, &table.constraint(node), 'U');
         }
     }
     let mut table = Table::new();
     let a = push_integer(&mut table, None);
     let value = table.push(Node::negate(a));
     let node = table.push(Node::equal(value, value));
-    assert_atom(&table.constraint(node), 'U');
+    assert_atom(calls, &table.constraint(node), 'U');
 }
 
-#[test]
-fn division_by_zero_is_undefined() {
+fn division_by_zero_is_undefined(calls: &dyn Calls) {
     for operation in [Node::div, Node::modulo] {
         for dividend in [-1, 0, 1] {
             let mut table = Table::new();
@@ -222,7 +241,7 @@ fn division_by_zero_is_undefined() {
             let b = push_integer(&mut table, Some(0));
             let value = table.push(operation(a, b));
             let node = table.push(Node::equal(value, value));
-            assert_atom(&table.constraint(node), 'U');
+            assert_atom(calls, &table.constraint(node), 'U');
         }
     }
 }
@@ -277,8 +296,7 @@ fn letter_set(word: &str) -> usize {
         .expect("a word of T, F and U")
 }
 
-#[test]
-fn quantifiers() {
+fn quantifiers(calls: &dyn Calls) {
     // Strict, Kleene, relational. The relational reading takes U for F.
     let exists = ["FTFUTUUU", "FTFUTTUT", "FTFFTTFT"];
     let forall = ["TTFUFUUU", "TTFUFUFF", "TTFFFFFF"];
@@ -299,15 +317,14 @@ fn quantifiers() {
             let table = table.constraint(node);
             for (choice, expected) in CHOICES.into_iter().zip(tables) {
                 let expected = expected.as_bytes()[letter_set(&word)];
-                let found = verdict(choice, &table);
+                let found = calls.verdict(choice, &table);
                 assert_eq!(found, byte(char::from(expected)), "{word} {choice}");
             }
         }
     }
 }
 
-#[test]
-fn sums() {
+fn sums(calls: &dyn Calls) {
     for word in words("25U") {
         let numerators: Vec<Option<i32>> = word
             .chars()
@@ -324,40 +341,38 @@ fn sums() {
                 (false, true) => 'T',
                 (false, false) => 'F',
             };
-            assert_atom(&table.constraint(node), expected);
+            assert_atom(calls, &table.constraint(node), expected);
         }
     }
 }
 
 /// Says that a sum over slot 0 equals a number, under every reading.
-fn assert_sum(mut table: Table, body: i32, expected: i32) {
+fn assert_sum(calls: &dyn Calls, mut table: Table, body: i32, expected: i32) {
     let sum = table.push(Node::sum(0, body));
     let number = table.push(Node::constant(expected));
     let node = table.push(Node::equal(sum, number));
     let table = table.constraint(node);
     for choice in CHOICES {
-        assert_eq!(verdict(choice, &table), 1, "{table:?}");
+        assert_eq!(calls.verdict(choice, &table), 1, "{table:?}");
     }
 }
 
-#[test]
-fn the_innermost_binding_wins() {
+fn the_innermost_binding_wins(calls: &dyn Calls) {
     // The sum over s in 1..3 of the sum over s of s is three times 6.
     let mut table = Table::new().slot(1, 3);
     let s = table.push(Node::slot(0));
     let inner = table.push(Node::sum(0, s));
-    assert_sum(table, inner, 18);
+    assert_sum(calls, table, inner, 18);
 }
 
-#[test]
-fn the_outer_setting_comes_back() {
+fn the_outer_setting_comes_back(calls: &dyn Calls) {
     // The sum over s in 1..3 of (the sum over s of s) + s is 18 + 6, and each
     // quantifier inside leaves s as it was.
     let mut table = Table::new().slot(1, 3);
     let s = table.push(Node::slot(0));
     let inner = table.push(Node::sum(0, s));
     let body = table.push(Node::add(inner, s));
-    assert_sum(table, body, 24);
+    assert_sum(calls, table, body, 24);
     for quantifier in [Node::exists, Node::forall] {
         let mut table = Table::new().slot(1, 3);
         let s = table.push(Node::slot(0));
@@ -365,23 +380,21 @@ fn the_outer_setting_comes_back() {
         let quantified = table.push(quantifier(0, holds));
         let number = table.push(Node::bool_to_int(quantified));
         let body = table.push(Node::multiply(number, s));
-        assert_sum(table, body, 6);
+        assert_sum(calls, table, body, 6);
     }
 }
 
-#[test]
-fn two_slots_do_not_mix() {
+fn two_slots_do_not_mix(calls: &dyn Calls) {
     // The sum over s in 1..3 and t in 10..11 of s times t is 6 times 21.
     let mut table = Table::new().slot(1, 3).slot(10, 11);
     let s = table.push(Node::slot(0));
     let t = table.push(Node::slot(1));
     let product = table.push(Node::multiply(s, t));
     let inner = table.push(Node::sum(1, product));
-    assert_sum(table, inner, 126);
+    assert_sum(calls, table, inner, 126);
 }
 
-#[test]
-fn a_shared_node_takes_each_binding() {
+fn a_shared_node_takes_each_binding(calls: &dyn Calls) {
     // s is one node, under two binders: (∃s in 1..2: s = 2) and s = 1 for
     // some outer s.
     let mut table = Table::new().slot(1, 2);
@@ -395,6 +408,6 @@ fn a_shared_node_takes_each_binding() {
     let node = table.push(Node::exists(0, both));
     let table = table.constraint(node);
     for choice in CHOICES {
-        assert_eq!(verdict(choice, &table), 1);
+        assert_eq!(calls.verdict(choice, &table), 1);
     }
 }

@@ -1,46 +1,69 @@
 //! Both sides of every limit: sizes, values, intervals, steps and depth.
 
-mod common;
+use super::{on_a_usual_stack, Trial};
+use crate::calls::{refused, Calls, CHOICES, MOST_BYTES, STRICT};
+use crate::{cost, limits, Element, Node, Table, Type};
 
-use barfigol_peer::{evaluate, translate};
-use barfigol_tables::{cost, limits, Element, Node, Table, Type};
-use common::{checked, refused, translated, verdict, verdicts, CHOICES, MOST_BYTES, STRICT};
+/// All trials of this file.
+pub const TRIALS: &[Trial] = trials![
+    counts_of_records,
+    full_declarations_are_used,
+    the_last_of_each_section_can_be_named,
+    lengths_of_tables,
+    many_constraints,
+    translations_beyond_the_longest_table,
+    constants,
+    values_met_by_operations,
+    a_value_beyond_is_met_below_small_ones,
+    every_operand_is_met,
+    nodes_that_are_not_met,
+    elements_count_only_when_looked_up,
+    variables_beyond_the_limit,
+    partial_sums_do_not_count,
+    nothing_overflows_after_a_value_beyond,
+    intervals_of_binary_operations,
+    signs_of_intervals,
+    intervals_of_the_rest,
+    intervals_of_sums_at_the_limit,
+    the_first_interval_beyond_is_reported,
+    steps_near_every_budget,
+    steps_of_nested_ranges,
+    deep_chains,
+    deep_chains_translated,
+];
 
 /// The largest value allowed.
 const LIMIT: i32 = 2_000_000_000;
 
-#[test]
-fn counts_of_records() {
-    assert_eq!(checked(&limits::variables(256).bytes()), (0, 0));
-    assert_eq!(checked(&limits::variables(257).bytes()), (3, 257));
-    assert_eq!(checked(&limits::slots(16).bytes()), (0, 0));
-    assert_eq!(checked(&limits::slots(17).bytes()), (3, 17));
-    assert_eq!(checked(&limits::arrays(64).bytes()), (0, 0));
-    assert_eq!(checked(&limits::arrays(65).bytes()), (3, 129));
-    assert_eq!(checked(&limits::elements(1).bytes()), (0, 0));
-    assert_eq!(checked(&limits::elements(1_024).bytes()), (0, 0));
-    assert_eq!(checked(&limits::elements(0).bytes()), (3, 1));
-    assert_eq!(checked(&limits::elements(1_025).bytes()), (3, 1));
-    assert_eq!(checked(&limits::slot_values(10_000).bytes()), (0, 0));
-    assert_eq!(checked(&limits::slot_values(10_001).bytes()), (3, 1));
+fn counts_of_records(calls: &dyn Calls) {
+    assert_eq!(calls.checked(&limits::variables(256).bytes()), (0, 0));
+    assert_eq!(calls.checked(&limits::variables(257).bytes()), (3, 257));
+    assert_eq!(calls.checked(&limits::slots(16).bytes()), (0, 0));
+    assert_eq!(calls.checked(&limits::slots(17).bytes()), (3, 17));
+    assert_eq!(calls.checked(&limits::arrays(64).bytes()), (0, 0));
+    assert_eq!(calls.checked(&limits::arrays(65).bytes()), (3, 129));
+    assert_eq!(calls.checked(&limits::elements(1).bytes()), (0, 0));
+    assert_eq!(calls.checked(&limits::elements(1_024).bytes()), (0, 0));
+    assert_eq!(calls.checked(&limits::elements(0).bytes()), (3, 1));
+    assert_eq!(calls.checked(&limits::elements(1_025).bytes()), (3, 1));
+    assert_eq!(calls.checked(&limits::slot_values(10_000).bytes()), (0, 0));
+    assert_eq!(calls.checked(&limits::slot_values(10_001).bytes()), (3, 1));
 }
 
-#[test]
-fn full_declarations_are_used() {
+fn full_declarations_are_used(calls: &dyn Calls) {
     for choice in CHOICES {
-        assert_eq!(verdict(choice, &limits::elements(1_024)), 1);
-        assert_eq!(verdict(choice, &limits::slot_values(10_000)), 1);
-        assert_eq!(verdict(choice, &limits::slots(16)), 1);
-        assert_eq!(verdict(choice, &limits::arrays(64)), 1);
+        assert_eq!(calls.verdict(choice, &limits::elements(1_024)), 1);
+        assert_eq!(calls.verdict(choice, &limits::slot_values(10_000)), 1);
+        assert_eq!(calls.verdict(choice, &limits::slots(16)), 1);
+        assert_eq!(calls.verdict(choice, &limits::arrays(64)), 1);
         let table = limits::variables(256).bytes();
-        assert_eq!(verdicts(choice, &table, &[1; 256]), Ok(vec![1]));
-        let short = verdicts(choice, &table, &[1; 255]);
+        assert_eq!(calls.verdicts(choice, &table, &[1; 256]), Ok(vec![1]));
+        let short = calls.verdicts(choice, &table, &[1; 255]);
         assert_eq!(short, Err(refused(10, 0)));
     }
 }
 
-#[test]
-fn the_last_of_each_section_can_be_named() {
+fn the_last_of_each_section_can_be_named(calls: &dyn Calls) {
     let mut table = Table::new();
     for number in 0..256 {
         table = table.variable(number, number);
@@ -63,78 +86,76 @@ fn the_last_of_each_section_can_be_named() {
     let bytes = table.constraint(node).bytes();
     let values: Vec<i32> = (0..256).collect();
     for choice in CHOICES {
-        assert_eq!(verdicts(choice, &bytes, &values), Ok(vec![1]));
-        let out = translated(choice, &bytes).expect("a table within bounds");
-        assert_eq!(verdicts(choice, &out, &values), Ok(vec![1]));
+        assert_eq!(calls.verdicts(choice, &bytes, &values), Ok(vec![1]));
+        let out = calls
+            .translated(choice, &bytes)
+            .expect("a table within bounds");
+        assert_eq!(calls.verdicts(choice, &out, &values), Ok(vec![1]));
     }
 }
 
-#[test]
-fn lengths_of_tables() {
+fn lengths_of_tables(calls: &dyn Calls) {
     let longest = limits::records(5_000).bytes();
     assert_eq!(longest.len(), 60_000);
-    assert_eq!(checked(&longest), (0, 0));
-    assert_eq!(verdicts(STRICT, &longest, &[]), Ok(vec![1]));
+    assert_eq!(calls.checked(&longest), (0, 0));
+    assert_eq!(calls.verdicts(STRICT, &longest, &[]), Ok(vec![1]));
     let longer = limits::records(5_001).bytes();
     assert_eq!(longer.len(), 60_012);
-    assert_eq!(checked(&longer), (1, 0));
+    assert_eq!(calls.checked(&longer), (1, 0));
 }
 
-#[test]
-fn many_constraints() {
+fn many_constraints(calls: &dyn Calls) {
     let start = Table::new().node(Node::truth(1));
     let table = (0..4_998).fold(start, |table, _| table.constraint(0));
     let bytes = table.bytes();
     assert_eq!(bytes.len(), 60_000);
     let mut room = vec![9; 4_999];
-    let answer = evaluate(STRICT, &bytes, &[], 4_998, &mut room);
+    let answer = calls.evaluate(STRICT, &bytes, &[], 4_998, &mut room);
     assert_eq!((answer.number, answer.steps), (0, 4_998));
     assert_eq!((answer.length, answer.all_true), (4_998, true));
     assert!(room[..4_998].iter().all(|&verdict| verdict == 1));
     assert_eq!(room[4_998], 9);
-    let answer = evaluate(STRICT, &bytes, &[], 4_997, &mut room);
+    let answer = calls.evaluate(STRICT, &bytes, &[], 4_997, &mut room);
     assert_eq!(answer, refused(11, 0));
 }
 
-#[test]
-fn translations_beyond_the_longest_table() {
+fn translations_beyond_the_longest_table(calls: &dyn Calls) {
     // A truth value becomes two nodes, so 2,499 of them and a constraint make
     // exactly 5,000 records.
     let fits = limits::records(2_501);
     let too_long = limits::records(2_502);
     for choice in CHOICES {
         let mut out = vec![9; MOST_BYTES + 1_000];
-        let answer = translate(choice, &fits.bytes(), &mut out);
+        let answer = calls.translate(choice, &fits.bytes(), &mut out);
         assert_eq!((answer.number, answer.length), (0, 60_000));
         assert!(out[MOST_BYTES..].iter().all(|&byte| byte == 9));
-        assert_eq!(checked(&out[..MOST_BYTES]), (0, 0));
+        assert_eq!(calls.checked(&out[..MOST_BYTES]), (0, 0));
         let mut out = vec![9; MOST_BYTES + 1_000];
-        let answer = translate(choice, &too_long.bytes(), &mut out);
+        let answer = calls.translate(choice, &too_long.bytes(), &mut out);
         assert_eq!(answer, refused(9, 0));
         assert!(out.iter().all(|&byte| byte == 9));
     }
 }
 
-#[test]
-fn constants() {
+fn constants(calls: &dyn Calls) {
     for choice in CHOICES {
         for value in [LIMIT, -LIMIT] {
             let table = limits::constant(value).bytes();
-            assert!(translated(choice, &table).is_ok());
-            assert_eq!(verdicts(choice, &table, &[]), Ok(vec![1]));
+            assert!(calls.translated(choice, &table).is_ok());
+            assert_eq!(calls.verdicts(choice, &table, &[]), Ok(vec![1]));
         }
         for value in [LIMIT + 1, -LIMIT - 1, i32::MAX, i32::MIN] {
             let table = limits::constant(value).bytes();
-            assert_eq!(translated(choice, &table), Err(refused(8, 1)));
-            assert_eq!(verdicts(choice, &table, &[]), Err(refused(8, 0)));
+            assert_eq!(calls.translated(choice, &table), Err(refused(8, 1)));
+            assert_eq!(calls.verdicts(choice, &table, &[]), Err(refused(8, 0)));
         }
     }
 }
 
 /// Evaluates a table without variables under each reading and says whether
 /// all of them refuse it with 8, or none.
-fn meets_a_value_beyond(table: &Table) -> bool {
-    let beyond = CHOICES.map(|choice| match verdicts(choice, &table.bytes(), &[]) {
+fn meets_a_value_beyond(calls: &dyn Calls, table: &Table) -> bool {
+    let beyond = CHOICES.map(|choice| match calls.verdicts(choice, &table.bytes(), &[]) {
         Ok(_) => false,
         Err(answer) => {
             assert_eq!(answer, refused(8, 0));
@@ -146,13 +167,12 @@ fn meets_a_value_beyond(table: &Table) -> bool {
 }
 
 /// Whether `value = value` meets a value beyond the limit.
-fn is_beyond(mut table: Table, value: i32) -> bool {
+fn is_beyond(calls: &dyn Calls, mut table: Table, value: i32) -> bool {
     let node = table.push(Node::equal(value, value));
-    meets_a_value_beyond(&table.constraint(node))
+    meets_a_value_beyond(calls, &table.constraint(node))
 }
 
-#[test]
-fn values_met_by_operations() {
+fn values_met_by_operations(calls: &dyn Calls) {
     let operations: [(Node, i32, i32, bool); 12] = [
         (Node::add(0, 1), LIMIT, 0, false),
         (Node::add(0, 1), LIMIT, 1, true),
@@ -172,30 +192,32 @@ fn values_met_by_operations() {
             .node(Node::constant(a))
             .node(Node::constant(b))
             .node(node);
-        assert_eq!(is_beyond(table, 2), expected, "{node:?} of {a} and {b}");
+        assert_eq!(
+            is_beyond(calls, table, 2),
+            expected,
+            "{node:?} of {a} and {b}"
+        );
     }
 }
 
-#[test]
-fn a_value_beyond_is_met_below_small_ones() {
+fn a_value_beyond_is_met_below_small_ones(calls: &dyn Calls) {
     // 2,000,000,001 div 2 is small, but its operand is met.
     let table = Table::new()
         .node(Node::constant(LIMIT + 1))
         .node(Node::constant(2))
         .node(Node::div(0, 1));
-    assert!(is_beyond(table, 2));
+    assert!(is_beyond(calls, table, 2));
     // i32::MIN div −1, and its remainder.
     for operation in [Node::div(0, 1), Node::modulo(0, 1)] {
         let table = Table::new()
             .node(Node::constant(i32::MIN))
             .node(Node::constant(-1))
             .node(operation);
-        assert!(is_beyond(table, 2));
+        assert!(is_beyond(calls, table, 2));
     }
 }
 
-#[test]
-fn every_operand_is_met() {
+fn every_operand_is_met(calls: &dyn Calls) {
     // true ∨ e, false ∧ e, e undefined on one side: e's values are met.
     let start = Table::new()
         .node(Node::constant(LIMIT + 1))
@@ -213,24 +235,23 @@ fn every_operand_is_met() {
     ];
     for node in walked {
         let table = start.clone().node(node).constraint(6);
-        assert!(meets_a_value_beyond(&table), "{node:?}");
+        assert!(meets_a_value_beyond(calls, &table), "{node:?}");
     }
     let undefined = [Node::add(5, 0), Node::div(0, 4), Node::lookup(0, 0)];
     for node in undefined {
         let table = start.clone().constants(0, &[1]).node(node);
-        assert!(is_beyond(table, 6), "{node:?}");
+        assert!(is_beyond(calls, table, 6), "{node:?}");
     }
 }
 
-#[test]
-fn nodes_that_are_not_met() {
+fn nodes_that_are_not_met(calls: &dyn Calls) {
     // No constraint reaches the constant.
     let table = limits::constant(LIMIT + 1).node(Node::truth(1));
     let table = Table {
         constraints: vec![2],
         ..table
     };
-    assert!(!meets_a_value_beyond(&table));
+    assert!(!meets_a_value_beyond(calls, &table));
     // The range is empty.
     for binder in [Node::exists(0, 1), Node::forall(0, 1)] {
         let table = Table::new()
@@ -239,28 +260,26 @@ fn nodes_that_are_not_met() {
             .node(Node::equal(0, 0))
             .node(binder)
             .constraint(2);
-        assert!(!meets_a_value_beyond(&table));
+        assert!(!meets_a_value_beyond(calls, &table));
     }
     let table = Table::new()
         .slot(1, 0)
         .node(Node::constant(LIMIT + 1))
         .node(Node::sum(0, 0));
-    assert!(!is_beyond(table, 1));
+    assert!(!is_beyond(calls, table, 1));
 }
 
-#[test]
-fn elements_count_only_when_looked_up() {
+fn elements_count_only_when_looked_up(calls: &dyn Calls) {
     for (index, expected) in [(0, false), (1, true), (2, false), (3, false)] {
         let table = Table::new()
             .constants(0, &[7, LIMIT + 1, -LIMIT])
             .node(Node::constant(index))
             .node(Node::lookup(0, 0));
-        assert_eq!(is_beyond(table, 1), expected, "index {index}");
+        assert_eq!(is_beyond(calls, table, 1), expected, "index {index}");
     }
 }
 
-#[test]
-fn variables_beyond_the_limit() {
+fn variables_beyond_the_limit(calls: &dyn Calls) {
     let bytes = Table::new()
         .variable(LIMIT, i32::MAX)
         .node(Node::variable(0))
@@ -268,19 +287,18 @@ fn variables_beyond_the_limit() {
         .constraint(1)
         .bytes();
     for choice in CHOICES {
-        assert_eq!(verdicts(choice, &bytes, &[LIMIT]), Ok(vec![1]));
-        let above = verdicts(choice, &bytes, &[LIMIT + 1]);
+        assert_eq!(calls.verdicts(choice, &bytes, &[LIMIT]), Ok(vec![1]));
+        let above = calls.verdicts(choice, &bytes, &[LIMIT + 1]);
         assert_eq!(above, Err(refused(8, 0)));
-        assert_eq!(translated(choice, &bytes), Err(refused(8, 2)));
+        assert_eq!(calls.translated(choice, &bytes), Err(refused(8, 2)));
     }
     // A variable that no node names is no fault.
     let unnamed = Table::new().variable(i32::MIN, i32::MAX).bytes();
-    assert!(translated(STRICT, &unnamed).is_ok());
-    assert_eq!(verdicts(STRICT, &unnamed, &[i32::MIN]), Ok(vec![]));
+    assert!(calls.translated(STRICT, &unnamed).is_ok());
+    assert_eq!(calls.verdicts(STRICT, &unnamed, &[i32::MIN]), Ok(vec![]));
 }
 
-#[test]
-fn partial_sums_do_not_count() {
+fn partial_sums_do_not_count(calls: &dyn Calls) {
     // Two thousand million twice, then minus two thousand million twice.
     let sum_of = |elements: &[i32]| {
         Table::new()
@@ -290,14 +308,17 @@ fn partial_sums_do_not_count() {
             .node(Node::lookup(0, 0))
             .node(Node::sum(0, 1))
     };
-    assert!(!is_beyond(sum_of(&[LIMIT, LIMIT, -LIMIT, -LIMIT]), 2));
-    assert!(!is_beyond(sum_of(&[LIMIT, LIMIT, -LIMIT]), 2));
-    assert!(is_beyond(sum_of(&[LIMIT, LIMIT]), 2));
-    assert!(is_beyond(sum_of(&[LIMIT, 1, LIMIT + 1]), 2));
+    assert!(!is_beyond(
+        calls,
+        sum_of(&[LIMIT, LIMIT, -LIMIT, -LIMIT]),
+        2
+    ));
+    assert!(!is_beyond(calls, sum_of(&[LIMIT, LIMIT, -LIMIT]), 2));
+    assert!(is_beyond(calls, sum_of(&[LIMIT, LIMIT]), 2));
+    assert!(is_beyond(calls, sum_of(&[LIMIT, 1, LIMIT + 1]), 2));
 }
 
-#[test]
-fn nothing_overflows_after_a_value_beyond() {
+fn nothing_overflows_after_a_value_beyond(calls: &dyn Calls) {
     // Squares of squares, sums of them, and a sum of 10,000 values.
     let mut table = Table::new().slot(1, 10).slot(1, 10_000);
     let mut value = table.push(Node::constant(i32::MIN));
@@ -311,12 +332,12 @@ fn nothing_overflows_after_a_value_beyond() {
     let square = table.push(Node::multiply(sum, sum));
     let quotient = table.push(Node::div(square, value));
     let remainder = table.push(Node::modulo(quotient, sum));
-    assert!(is_beyond(table, remainder));
+    assert!(is_beyond(calls, table, remainder));
 }
 
 /// Translates a table and gives the node that is refused with 8, if any.
-fn node_beyond(table: &Table) -> Option<u32> {
-    let results = CHOICES.map(|choice| translated(choice, &table.bytes()).err());
+fn node_beyond(calls: &dyn Calls, table: &Table) -> Option<u32> {
+    let results = CHOICES.map(|choice| calls.translated(choice, &table.bytes()).err());
     assert!(results.iter().all(|&result| result == results[0]));
     results[0].map(|answer| {
         let node = answer.record - table.first_node_record() as u32;
@@ -326,7 +347,7 @@ fn node_beyond(table: &Table) -> Option<u32> {
 }
 
 /// Says that a node's interval has an end of this magnitude and no larger one.
-fn assert_magnitude(table: &Table, node: i32, magnitude: i32) {
+fn assert_magnitude(calls: &dyn Calls, table: &Table, node: i32, magnitude: i32) {
     let times = |factor: i32| {
         let mut table = table.clone();
         let factor = table.push(Node::constant(factor));
@@ -335,13 +356,16 @@ fn assert_magnitude(table: &Table, node: i32, magnitude: i32) {
     };
     let most = LIMIT / magnitude;
     let (within, _) = times(most);
-    assert_eq!(node_beyond(&within), None, "{table:?}");
+    assert_eq!(node_beyond(calls, &within), None, "{table:?}");
     let (beyond, product) = times(most + 1);
-    assert_eq!(node_beyond(&beyond), Some(product as u32), "{table:?}");
+    assert_eq!(
+        node_beyond(calls, &beyond),
+        Some(product as u32),
+        "{table:?}"
+    );
 }
 
-#[test]
-fn intervals_of_binary_operations() {
+fn intervals_of_binary_operations(calls: &dyn Calls) {
     // Domains of two variables, the operation, the largest magnitude.
     let cases = [
         ((-3, 5), (-7, 2), Node::add(0, 1), 10),
@@ -372,12 +396,11 @@ fn intervals_of_binary_operations() {
             .node(Node::variable(0))
             .node(Node::variable(1))
             .node(node);
-        assert_magnitude(&table, 2, magnitude);
+        assert_magnitude(calls, &table, 2, magnitude);
     }
 }
 
-#[test]
-fn signs_of_intervals() {
+fn signs_of_intervals(calls: &dyn Calls) {
     // mod yields 0 and more, div both signs, negate turns the ends round: the
     // sum with a constant shows which end is where.
     let cases = [
@@ -397,7 +420,7 @@ fn signs_of_intervals() {
             .node(node);
         let with = |constant: i32| {
             let table = start.clone().node(Node::constant(constant));
-            node_beyond(&table.node(Node::add(3, 4)))
+            node_beyond(calls, &table.node(Node::add(3, 4)))
         };
         // An end at 0 leaves no room: the constant itself is beyond.
         let refused_node = |end: i32| Some(if end == 0 { 4 } else { 5 });
@@ -408,8 +431,7 @@ fn signs_of_intervals() {
     }
 }
 
-#[test]
-fn intervals_of_the_rest() {
+fn intervals_of_the_rest(calls: &dyn Calls) {
     // mod by a divisor that is only 0 yields 0..0.
     let table = Table::new()
         .node(Node::constant(5))
@@ -417,7 +439,7 @@ fn intervals_of_the_rest() {
         .node(Node::modulo(0, 1))
         .node(Node::constant(LIMIT))
         .node(Node::add(2, 3));
-    assert_eq!(node_beyond(&table), None);
+    assert_eq!(node_beyond(calls, &table), None);
     // A lookup has the hull of its elements, variables by domain.
     let elements = [Element::Constant(3), Element::Variable(0)];
     let table = Table::new()
@@ -425,40 +447,38 @@ fn intervals_of_the_rest() {
         .array(Type::Integer, 0, &elements)
         .node(Node::constant(9))
         .node(Node::lookup(0, 0));
-    assert_magnitude(&table, 1, 4);
+    assert_magnitude(calls, &table, 1, 4);
     // A slot has its range, and its first value if the range is empty.
     let table = Table::new().slot(-3, 2).node(Node::slot(0));
-    assert_magnitude(&table, 0, 3);
+    assert_magnitude(calls, &table, 0, 3);
     let table = Table::new().slot(5, -50).node(Node::slot(0));
-    assert_magnitude(&table, 0, 5);
+    assert_magnitude(calls, &table, 0, 5);
     // A sum has the body's ends times the number of values.
     let table = Table::new()
         .slot(1, 4)
         .variable(-5, 2)
         .node(Node::variable(0))
         .node(Node::sum(0, 0));
-    assert_magnitude(&table, 1, 20);
+    assert_magnitude(calls, &table, 1, 20);
 }
 
-#[test]
-fn intervals_of_sums_at_the_limit() {
+fn intervals_of_sums_at_the_limit(calls: &dyn Calls) {
     let sum = |count: i32, value: i32| {
         Table::new()
             .slot(1, count)
             .node(Node::constant(value))
             .node(Node::sum(0, 0))
     };
-    assert_eq!(node_beyond(&sum(10_000, 200_000)), None);
-    assert_eq!(node_beyond(&sum(10_000, 200_001)), Some(1));
-    assert_eq!(node_beyond(&sum(10_000, -200_000)), None);
-    assert_eq!(node_beyond(&sum(10_000, -200_001)), Some(1));
-    assert_eq!(node_beyond(&sum(10_000, LIMIT)), Some(1));
-    assert_eq!(node_beyond(&sum(0, LIMIT)), None);
-    assert_eq!(node_beyond(&sum(-5, LIMIT)), None);
+    assert_eq!(node_beyond(calls, &sum(10_000, 200_000)), None);
+    assert_eq!(node_beyond(calls, &sum(10_000, 200_001)), Some(1));
+    assert_eq!(node_beyond(calls, &sum(10_000, -200_000)), None);
+    assert_eq!(node_beyond(calls, &sum(10_000, -200_001)), Some(1));
+    assert_eq!(node_beyond(calls, &sum(10_000, LIMIT)), Some(1));
+    assert_eq!(node_beyond(calls, &sum(0, LIMIT)), None);
+    assert_eq!(node_beyond(calls, &sum(-5, LIMIT)), None);
 }
 
-#[test]
-fn the_first_interval_beyond_is_reported() {
+fn the_first_interval_beyond_is_reported(calls: &dyn Calls) {
     // Not the constraint's node, not the last, reached or not.
     let table = Table::new()
         .constants(0, &[i32::MAX])
@@ -467,34 +487,32 @@ fn the_first_interval_beyond_is_reported() {
         .node(Node::lookup(0, 1))
         .node(Node::constant(i32::MIN))
         .constraint(0);
-    assert_eq!(node_beyond(&table), Some(2));
+    assert_eq!(node_beyond(calls, &table), Some(2));
     let array_alone = Table::new().constants(0, &[i32::MAX, i32::MIN]);
-    assert_eq!(node_beyond(&array_alone), None);
+    assert_eq!(node_beyond(calls, &array_alone), None);
 }
 
-#[test]
-fn steps_near_every_budget() {
+fn steps_near_every_budget(calls: &dyn Calls) {
     // Depth n costs 2^(n + 1) − 1, and a range of n around true costs n + 1.
     let largest = limits::doubling(31);
     assert_eq!(cost::steps(&largest), u128::from(u32::MAX));
     let table = largest.bytes();
-    let answer = evaluate(STRICT, &table, &[], u32::MAX - 1, &mut [0]);
+    let answer = calls.evaluate(STRICT, &table, &[], u32::MAX - 1, &mut [0]);
     assert_eq!(answer, refused(11, 0));
     let over = largest.node(Node::truth(1)).constraint(32).bytes();
-    let answer = evaluate(STRICT, &over, &[], u32::MAX, &mut [0; 2]);
+    let answer = calls.evaluate(STRICT, &over, &[], u32::MAX, &mut [0; 2]);
     assert_eq!(answer, refused(11, 0));
     for depth in [32, 33, 63, 64, 65, 127, 128, 4_900] {
         let table = limits::doubling(depth).bytes();
-        let answer = evaluate(STRICT, &table, &[], u32::MAX, &mut [0]);
+        let answer = calls.evaluate(STRICT, &table, &[], u32::MAX, &mut [0]);
         assert_eq!(answer, refused(11, 0), "depth {depth}");
     }
 }
 
-#[test]
-fn steps_of_nested_ranges() {
+fn steps_of_nested_ranges(calls: &dyn Calls) {
     let steps = |sizes: &[i32]| {
         let table = limits::nested(sizes);
-        let answer = evaluate(STRICT, &table.bytes(), &[], u32::MAX, &mut [0]);
+        let answer = calls.evaluate(STRICT, &table.bytes(), &[], u32::MAX, &mut [0]);
         assert_eq!(u128::from(answer.steps), cost::steps(&table));
         answer.steps
     };
@@ -506,42 +524,33 @@ fn steps_of_nested_ranges() {
     assert_eq!(steps(&[10_000, 10_000, 10_000, 10_000, 10_000, 0]), 1);
     assert_eq!(steps(&[10_000, 10_000, 10_000, 10_000, 0, 5]), 6);
     let table = limits::nested(&[10_000; 16]).bytes();
-    let answer = evaluate(STRICT, &table, &[], u32::MAX, &mut [0]);
+    let answer = calls.evaluate(STRICT, &table, &[], u32::MAX, &mut [0]);
     assert_eq!(answer, refused(11, 0));
 }
 
-/// Runs on a stack of eight million bytes.
-fn on_a_usual_stack(trial: fn()) {
-    let thread = std::thread::Builder::new().stack_size(8_000_000);
-    let handle = thread.spawn(trial).expect("a thread");
-    handle.join().expect("the trial passes");
-}
-
-#[test]
-fn deep_chains() {
-    on_a_usual_stack(|| {
+fn deep_chains(calls: &dyn Calls) {
+    on_a_usual_stack(&|| {
         for choice in CHOICES {
-            assert_eq!(verdict(choice, &limits::chain_of_nots(4_900)), 1);
-            assert_eq!(verdict(choice, &limits::chain_of_nots(4_901)), 0);
-            assert_eq!(verdict(choice, &limits::chain_of_adds(4_900)), 1);
-            assert_eq!(verdict(choice, &limits::chain_of_types(4_900)), 1);
+            assert_eq!(calls.verdict(choice, &limits::chain_of_nots(4_900)), 1);
+            assert_eq!(calls.verdict(choice, &limits::chain_of_nots(4_901)), 0);
+            assert_eq!(calls.verdict(choice, &limits::chain_of_adds(4_900)), 1);
+            assert_eq!(calls.verdict(choice, &limits::chain_of_types(4_900)), 1);
         }
     });
 }
 
-#[test]
-fn deep_chains_translated() {
-    on_a_usual_stack(|| {
+fn deep_chains_translated(calls: &dyn Calls) {
+    on_a_usual_stack(&|| {
         for choice in CHOICES {
             let nots = limits::chain_of_nots(4_901).bytes();
-            let out = translated(choice, &nots).expect("not writes nothing");
+            let out = calls.translated(choice, &nots).expect("not writes nothing");
             assert_eq!(out.len(), 4 * 12);
-            assert_eq!(verdicts(choice, &out, &[]), Ok(vec![0]));
+            assert_eq!(calls.verdicts(choice, &out, &[]), Ok(vec![0]));
             let adds = limits::chain_of_adds(2_400).bytes();
-            let out = translated(choice, &adds).expect("it fits");
-            assert_eq!(verdicts(choice, &out, &[]), Ok(vec![1]));
+            let out = calls.translated(choice, &adds).expect("it fits");
+            assert_eq!(calls.verdicts(choice, &out, &[]), Ok(vec![1]));
             let long = limits::chain_of_adds(4_900).bytes();
-            assert_eq!(translated(choice, &long), Err(refused(9, 0)));
+            assert_eq!(calls.translated(choice, &long), Err(refused(9, 0)));
         }
     });
 }

@@ -1,14 +1,32 @@
 //! The records that a translation writes, kind by kind and in their order.
 
-mod common;
+use super::Trial;
+use crate::calls::{Calls, CHOICES, KLEENE, RELATIONAL, STRICT};
+use crate::{rows_of, Element, Node, Table, Type};
 
-use barfigol_peer::listing;
-use barfigol_tables::{rows_of, Element, Node, Table, Type};
-use common::{translated, CHOICES, KLEENE, RELATIONAL, STRICT};
+/// All trials of this file.
+pub const TRIALS: &[Trial] = trials![
+    leaves,
+    arithmetic,
+    divisions,
+    negate_has_its_operand_defined,
+    conversions_and_sums,
+    integer_lookup,
+    bool_lookup,
+    comparisons,
+    connectives,
+    iff,
+    quantifiers,
+    not_swaps_and_constraints_take_what_is_true,
+    operands_are_taken_in_their_order,
+    a_table_without_nodes_is_copied,
+];
 
 /// The nodes and constraints that a translation writes, as `kind x y`.
-fn written(choice: u32, table: &Table) -> Vec<String> {
-    let out = translated(choice, &table.bytes()).expect("a table within bounds");
+fn written(calls: &dyn Calls, choice: u32, table: &Table) -> Vec<String> {
+    let out = calls
+        .translated(choice, &table.bytes())
+        .expect("a table within bounds");
     let rows = rows_of(&out);
     let copied = table.first_node_record();
     assert_eq!(rows[0].x as usize, rows.len());
@@ -56,19 +74,18 @@ const INTEGER_LEAVES: &str = "3 0 0, 2 1 0, 3 1 0, 2 1 0";
 const BOOL_LEAVES: &str = "4 0 0, 24 0 0, 4 1 0, 24 2 0";
 
 /// Says what is written for one node after the two leaves.
-fn assert_written(choice: u32, table: Table, node: Node, expected: &str) {
+fn assert_written(calls: &dyn Calls, choice: u32, table: Table, node: Node, expected: &str) {
     let leaves = match table.nodes[0].yields() {
         Type::Integer => INTEGER_LEAVES,
         Type::Bool => BOOL_LEAVES,
     };
     let all = format!("{leaves}, {expected}");
     let expected: Vec<&str> = all.split(", ").collect();
-    let found = written(choice, &table.node(node));
+    let found = written(calls, choice, &table.node(node));
     assert_eq!(found, expected, "kind {} under {choice}", node.kind);
 }
 
-#[test]
-fn leaves() {
+fn leaves(calls: &dyn Calls) {
     let table = Table::new()
         .variable(0, 1)
         .bool_variable()
@@ -84,12 +101,11 @@ fn leaves() {
         "24 8 0", "5 0 0", "2 1 0",
     ];
     for choice in CHOICES {
-        assert_eq!(written(choice, &table), expected);
+        assert_eq!(written(calls, choice, &table), expected);
     }
 }
 
-#[test]
-fn arithmetic() {
+fn arithmetic(calls: &dyn Calls) {
     let operations: [fn(i32, i32) -> Node; 5] = [
         Node::add,
         Node::subtract,
@@ -101,54 +117,55 @@ fn arithmetic() {
         for operation in operations {
             let node = operation(0, 1);
             let expected = format!("{} 0 2, 20 1 3", node.kind);
-            assert_written(choice, integers(), node, &expected);
+            assert_written(calls, choice, integers(), node, &expected);
         }
     }
 }
 
-#[test]
-fn divisions() {
+fn divisions(calls: &dyn Calls) {
     for choice in CHOICES {
         for node in [Node::div(0, 1), Node::modulo(0, 1)] {
             let value = format!("1 0 0, 25 2 4, 14 5 0, 6 2 6, {} 0 7", node.kind);
             let defined = "20 1 3, 1 0 0, 26 2 10, 20 9 11";
             let expected = format!("{value}, {defined}");
-            assert_written(choice, integers(), node, &expected);
+            assert_written(calls, choice, integers(), node, &expected);
         }
     }
 }
 
-#[test]
-fn negate_has_its_operand_defined() {
+fn negate_has_its_operand_defined(calls: &dyn Calls) {
     for choice in CHOICES {
-        assert_written(choice, integers(), Node::negate(1), "11 2 0");
+        assert_written(calls, choice, integers(), Node::negate(1), "11 2 0");
         // The definedness of node 2 is that of node 1, which is record 3.
         let table = integers().node(Node::negate(1));
-        let found = written(choice, &table.node(Node::add(0, 2)));
+        let found = written(calls, choice, &table.node(Node::add(0, 2)));
         assert_eq!(found[4..], ["11 2 0", "6 0 4", "20 1 3"]);
     }
 }
 
-#[test]
-fn conversions_and_sums() {
+fn conversions_and_sums(calls: &dyn Calls) {
     for choice in CHOICES {
-        assert_written(choice, bools(), Node::bool_to_int(1), "14 2 0, 21 2 3");
-        assert_written(choice, integers(), Node::sum(0, 1), "17 0 2, 30 0 3");
+        assert_written(
+            calls,
+            choice,
+            bools(),
+            Node::bool_to_int(1),
+            "14 2 0, 21 2 3",
+        );
+        assert_written(calls, choice, integers(), Node::sum(0, 1), "17 0 2, 30 0 3");
     }
 }
 
-#[test]
-fn integer_lookup() {
+fn integer_lookup(calls: &dyn Calls) {
     let value = "1 -1 0, 1 1 0, 12 5 2, 13 4 6, 15 0 7";
     let defined = "1 -1 0, 27 9 2, 20 3 10, 1 1 0, 27 2 12, 20 11 13";
     let expected = format!("{value}, {defined}");
     for choice in CHOICES {
-        assert_written(choice, integers(), Node::lookup(0, 1), &expected);
+        assert_written(calls, choice, integers(), Node::lookup(0, 1), &expected);
     }
 }
 
-#[test]
-fn bool_lookup() {
+fn bool_lookup(calls: &dyn Calls) {
     let inside = "1 -1 0, 27 4 0, 20 1 5, 1 1 0, 27 0 7, 20 6 8";
     let element = "1 -1 0, 1 1 0, 12 11 0, 13 10 12, 16 1 13";
     let is_true = format!("{inside}, {element}, 20 9 14");
@@ -158,14 +175,13 @@ fn bool_lookup() {
     let node = Node::bool_lookup(1, 0);
     for choice in [STRICT, KLEENE] {
         let expected = format!("{is_true}, {is_false}");
-        assert_written(choice, integers(), node, &expected);
+        assert_written(calls, choice, integers(), node, &expected);
     }
     let expected = format!("{is_true}, 24 15 0");
-    assert_written(RELATIONAL, integers(), node, &expected);
+    assert_written(calls, RELATIONAL, integers(), node, &expected);
 }
 
-#[test]
-fn comparisons() {
+fn comparisons(calls: &dyn Calls) {
     let comparisons: [fn(i32, i32) -> Node; 4] =
         [Node::equal, Node::unequal, Node::at_most, Node::below];
     for comparison in comparisons {
@@ -175,50 +191,52 @@ fn comparisons() {
         let is_false = format!("20 1 3, {kind} 0 2, 24 8 0, 20 7 9");
         for choice in [STRICT, KLEENE] {
             let expected = format!("{is_true}, {is_false}");
-            assert_written(choice, integers(), node, &expected);
+            assert_written(calls, choice, integers(), node, &expected);
         }
         let expected = format!("{is_true}, 24 6 0");
-        assert_written(RELATIONAL, integers(), node, &expected);
+        assert_written(calls, RELATIONAL, integers(), node, &expected);
     }
 }
 
-#[test]
-fn connectives() {
+fn connectives(calls: &dyn Calls) {
     for choice in [KLEENE, RELATIONAL] {
-        assert_written(choice, bools(), Node::and(0, 1), "20 0 2, 21 1 3");
-        assert_written(choice, bools(), Node::or(0, 1), "21 0 2, 20 1 3");
-        assert_written(choice, bools(), Node::implies(0, 1), "21 1 2, 20 0 3");
+        assert_written(calls, choice, bools(), Node::and(0, 1), "20 0 2, 21 1 3");
+        assert_written(calls, choice, bools(), Node::or(0, 1), "21 0 2, 20 1 3");
+        assert_written(
+            calls,
+            choice,
+            bools(),
+            Node::implies(0, 1),
+            "21 1 2, 20 0 3",
+        );
     }
     let and = "20 0 2, 21 0 1, 21 2 3, 20 5 6, 21 1 3, 20 7 8";
     let or = "21 0 1, 21 2 3, 20 4 5, 21 0 2, 20 6 7, 20 1 3";
     let implies = "21 0 1, 21 2 3, 20 4 5, 21 1 2, 20 6 7, 20 0 3";
-    assert_written(STRICT, bools(), Node::and(0, 1), and);
-    assert_written(STRICT, bools(), Node::or(0, 1), or);
-    assert_written(STRICT, bools(), Node::implies(0, 1), implies);
+    assert_written(calls, STRICT, bools(), Node::and(0, 1), and);
+    assert_written(calls, STRICT, bools(), Node::or(0, 1), or);
+    assert_written(calls, STRICT, bools(), Node::implies(0, 1), implies);
 }
 
-#[test]
-fn iff() {
+fn iff(calls: &dyn Calls) {
     let expected = "20 0 2, 20 1 3, 21 4 5, 20 0 3, 20 1 2, 21 7 8";
     for choice in CHOICES {
-        assert_written(choice, bools(), Node::iff(0, 1), expected);
+        assert_written(calls, choice, bools(), Node::iff(0, 1), expected);
     }
 }
 
-#[test]
-fn quantifiers() {
+fn quantifiers(calls: &dyn Calls) {
     for choice in [KLEENE, RELATIONAL] {
-        assert_written(choice, bools(), Node::exists(0, 1), "29 0 2, 30 0 3");
-        assert_written(choice, bools(), Node::forall(0, 1), "30 0 2, 29 0 3");
+        assert_written(calls, choice, bools(), Node::exists(0, 1), "29 0 2, 30 0 3");
+        assert_written(calls, choice, bools(), Node::forall(0, 1), "30 0 2, 29 0 3");
     }
     let exists = "21 2 3, 30 0 4, 29 0 2, 20 5 6, 30 0 3";
     let forall = "30 0 2, 21 2 3, 30 0 5, 29 0 3, 20 6 7";
-    assert_written(STRICT, bools(), Node::exists(0, 1), exists);
-    assert_written(STRICT, bools(), Node::forall(0, 1), forall);
+    assert_written(calls, STRICT, bools(), Node::exists(0, 1), exists);
+    assert_written(calls, STRICT, bools(), Node::forall(0, 1), forall);
 }
 
-#[test]
-fn not_swaps_and_constraints_take_what_is_true() {
+fn not_swaps_and_constraints_take_what_is_true(calls: &dyn Calls) {
     let table = bools()
         .node(Node::not(0))
         .node(Node::not(2))
@@ -227,62 +245,30 @@ fn not_swaps_and_constraints_take_what_is_true() {
         .constraint(1)
         .constraint(2);
     for choice in CHOICES {
-        let found = written(choice, &table);
+        let found = written(calls, choice, &table);
         assert_eq!(found[4..], ["CN 1", "CN 0", "CN 2", "CN 1"]);
     }
 }
 
-#[test]
-fn operands_are_taken_in_their_order() {
+fn operands_are_taken_in_their_order(calls: &dyn Calls) {
     // The same two nodes the other way round.
     let strict = "21 2 3, 21 0 1, 20 4 5, 21 3 0, 20 6 7, 20 2 1";
-    assert_written(STRICT, bools(), Node::implies(1, 0), strict);
-    assert_written(KLEENE, integers(), Node::subtract(1, 0), "7 2 0, 20 3 1");
+    assert_written(calls, STRICT, bools(), Node::implies(1, 0), strict);
+    assert_written(
+        calls,
+        KLEENE,
+        integers(),
+        Node::subtract(1, 0),
+        "7 2 0, 20 3 1",
+    );
 }
 
-#[test]
-fn a_table_without_nodes_is_copied() {
+fn a_table_without_nodes_is_copied(calls: &dyn Calls) {
     let table = Table {
         nodes: Vec::new(),
         ..integers()
     };
     for choice in CHOICES {
-        assert_eq!(translated(choice, &table.bytes()), Ok(table.bytes()));
+        assert_eq!(calls.translated(choice, &table.bytes()), Ok(table.bytes()));
     }
-}
-
-/// The listing of a choice byte and a table.
-fn listed(first: u8, table: &[u8]) -> String {
-    let mut input = vec![first];
-    input.extend_from_slice(table);
-    String::from_utf8(listing(&input)).expect("the listing is text")
-}
-
-#[test]
-fn listings() {
-    let table = Table::new().variable(-3, 4).node(Node::truth(0)).bytes();
-    let expected = "HD 1 0 4 0\nVR 1 0 -3 4\nND 2 0 0 0\nND 24 0 0 0\n";
-    for choice in *b"123" {
-        assert_eq!(listed(choice, &table), expected);
-    }
-    for other in *b"0456789 a\n\0\xff" {
-        assert_eq!(listed(other, &table), "refused 7 0\n");
-    }
-    assert_eq!(listing(b""), b"refused 7 0\n");
-    assert_eq!(listing(b"1"), b"refused 1 0\n");
-    assert_eq!(listed(b'2', b"\n"), "refused 1 0\n");
-    assert_eq!(listed(b'2', &[0; 12]), "refused 2 0\n");
-}
-
-#[test]
-fn listings_of_long_tables() {
-    let longest = vec![0; 60_000];
-    assert_eq!(listed(b'1', &longest), "refused 2 0\n");
-    let longer = vec![0; 60_012];
-    assert_eq!(listed(b'1', &longer), "refused 1 0\n");
-    assert_eq!(listed(b'8', &longer), "refused 7 0\n");
-    let many = Table::new().nodes(&[Node::truth(1); 2_500]).bytes();
-    assert_eq!(listed(b'3', &many), "refused 9 0\n");
-    let constant = Table::new().variable(0, 0).node(Node::constant(i32::MAX));
-    assert_eq!(listed(b'3', &constant.bytes()), "refused 8 2\n");
 }

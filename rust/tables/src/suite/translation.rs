@@ -1,13 +1,23 @@
 //! A translation means what the table meant: by brute force over all
 //! assignments of random small tables. BARFIGOL_LONG=1 tries many more.
 
-mod common;
+use super::{for_random_tables, rounds, smallest_failure, Trial};
+use crate::calls::{Calls, CHOICES, KLEENE, RELATIONAL, STRICT};
+use crate::random::{self, Plan};
+use crate::{cost, pretty, trials, Node, Random, Table};
 
-use barfigol_peer::evaluate;
-use barfigol_tables::random::{self, Plan};
-use barfigol_tables::{cost, pretty, trials, Node, Random, Table};
-use common::{assignments, checked, for_random_tables, rounds, smallest_failure};
-use common::{translated, verdicts, CHOICES, KLEENE, RELATIONAL, STRICT};
+/// All trials of this file.
+pub const TRIALS: &[Trial] = trials![
+    small_tables_keep_their_meaning,
+    middle_tables_keep_their_meaning,
+    tables_near_the_limits_keep_their_meaning,
+    worked_examples_keep_their_meaning,
+    a_wrong_translation_is_noticed_and_made_small,
+    the_readings_agree_where_they_must,
+    steps_are_those_of_the_definition,
+    translations_can_be_translated,
+    a_guard_stays_inside_its_binder,
+];
 
 /// Tables with more steps than this, over all assignments, are left out.
 const MOST_STEPS: u128 = 100_000;
@@ -25,19 +35,25 @@ struct Seen {
 
 /// Translates a table under one choice and compares it with the table itself,
 /// read under a choice.
-fn compared(translation: u32, reading: u32, table: &Table, seen: &mut Seen) -> Result<(), String> {
+fn compared(
+    calls: &dyn Calls,
+    translation: u32,
+    reading: u32,
+    table: &Table,
+    seen: &mut Seen,
+) -> Result<(), String> {
     let bytes = table.bytes();
-    let out = match translated(translation, &bytes) {
+    let out = match calls.translated(translation, &bytes) {
         Ok(out) => out,
         Err(answer) if answer.number == 8 || answer.number == 9 => return Ok(()),
         Err(answer) => return Err(format!("the translation is refused: {answer:?}")),
     };
     ensure!(
-        checked(&out) == (0, 0),
+        calls.checked(&out) == (0, 0),
         "the check refuses the translation\n{}",
         pretty(&out)
     );
-    let all = assignments(table);
+    let all = table.assignments();
     let steps = cost::steps(table).max(cost::steps(&Table::read(&out)));
     if steps.saturating_mul(all.len() as u128) > MOST_STEPS {
         return Ok(());
@@ -45,20 +61,22 @@ fn compared(translation: u32, reading: u32, table: &Table, seen: &mut Seen) -> R
     seen.tables += 1;
     note_kinds(table, seen);
     all.iter().try_for_each(|assignment| {
-        compared_at(assignment, reading, &bytes, &out, seen)
+        compared_at(calls, assignment, reading, &bytes, &out, seen)
             .map_err(|why| format!("{why} at {assignment:?}, translated under {translation}"))
     })
 }
 
 /// Compares a table and its translation at one assignment.
 fn compared_at(
+    calls: &dyn Calls,
     assignment: &[i32],
     reading: u32,
     table: &[u8],
     out: &[u8],
     seen: &mut Seen,
 ) -> Result<(), String> {
-    let old = verdicts(reading, table, assignment)
+    let old = calls
+        .verdicts(reading, table, assignment)
         .map_err(|answer| format!("{answer:?} before translation"))?;
     seen.assignments += 1;
     for &verdict in &old {
@@ -66,7 +84,8 @@ fn compared_at(
     }
     let wanted: Vec<u8> = old.iter().map(|&verdict| u8::from(verdict == 1)).collect();
     for choice in CHOICES {
-        let new = verdicts(choice, out, assignment)
+        let new = calls
+            .verdicts(choice, out, assignment)
             .map_err(|answer| format!("{answer:?} after translation, under {choice}"))?;
         ensure!(
             new == wanted,
@@ -92,12 +111,12 @@ fn note_kinds(table: &Table, seen: &mut Seen) {
 }
 
 /// Compares random tables with their translations under every reading.
-fn compare(seed: u64, plan: &Plan, count: u64) -> Seen {
+fn compare(calls: &dyn Calls, seed: u64, plan: &Plan, count: u64) -> Seen {
     let mut seen = Seen::default();
-    for_random_tables(seed, plan, count, &mut |table| {
+    for_random_tables(calls, seed, plan, count, &mut |table| {
         CHOICES
             .iter()
-            .try_for_each(|&choice| compared(choice, choice, table, &mut seen))
+            .try_for_each(|&choice| compared(calls, choice, choice, table, &mut seen))
     });
     seen
 }
@@ -109,39 +128,35 @@ fn assert_enough(seen: &Seen, count: u64) {
     for (verdict, &times) in seen.verdicts.iter().enumerate() {
         assert!(times > often, "verdict {verdict} {times} times");
     }
-    for kind in barfigol_tables::kinds::KINDS {
+    for kind in crate::kinds::KINDS {
         let number = kind.number;
         assert!(seen.kinds[usize::from(number)], "kind {number} is unseen");
     }
 }
 
-#[test]
-fn small_tables_keep_their_meaning() {
+fn small_tables_keep_their_meaning(calls: &dyn Calls) {
     let count = rounds(20_000);
-    let seen = compare(31, &Plan::SMALL, count);
+    let seen = compare(calls, 31, &Plan::SMALL, count);
     assert_enough(&seen, count);
 }
 
-#[test]
-fn middle_tables_keep_their_meaning() {
+fn middle_tables_keep_their_meaning(calls: &dyn Calls) {
     let count = rounds(6_000);
-    let seen = compare(32, &Plan::MIDDLE, count);
+    let seen = compare(calls, 32, &Plan::MIDDLE, count);
     assert_enough(&seen, count);
 }
 
-#[test]
-fn tables_near_the_limits_keep_their_meaning() {
+fn tables_near_the_limits_keep_their_meaning(calls: &dyn Calls) {
     let plan = Plan {
         wild: 6,
         ..Plan::SMALL
     };
     let count = rounds(10_000);
-    let seen = compare(33, &plan, count);
+    let seen = compare(calls, 33, &plan, count);
     assert!(seen.tables > count / 2, "{} tables", seen.tables);
 }
 
-#[test]
-fn worked_examples_keep_their_meaning() {
+fn worked_examples_keep_their_meaning(calls: &dyn Calls) {
     let mut seen = Seen::default();
     let tables = [
         trials::p1(),
@@ -155,14 +170,13 @@ fn worked_examples_keep_their_meaning() {
     ];
     for table in &tables {
         for choice in CHOICES {
-            assert_eq!(compared(choice, choice, table, &mut seen), Ok(()));
+            assert_eq!(compared(calls, choice, choice, table, &mut seen), Ok(()));
         }
     }
     assert_eq!(seen.tables, 24);
 }
 
-#[test]
-fn a_wrong_translation_is_noticed_and_made_small() {
+fn a_wrong_translation_is_noticed_and_made_small(calls: &dyn Calls) {
     // A translation under one reading is wrong for another one.
     let mut random = Random::new(34);
     let wrong = [
@@ -174,31 +188,33 @@ fn a_wrong_translation_is_noticed_and_made_small() {
     for (translation, reading) in wrong {
         let mut wrongly = |table: &Table| {
             let mut seen = Seen::default();
-            compared(translation, reading, table, &mut seen)
+            compared(calls, translation, reading, table, &mut seen)
         };
         let faulty = (0..10_000)
             .map(|_| random::table(&mut random, &Plan::MIDDLE))
             .find(|table| wrongly(table).is_err())
             .expect("a table on which the readings differ");
-        let text = smallest_failure(&faulty, &mut wrongly);
+        let text = smallest_failure(calls, &faulty, &mut wrongly);
         assert!(text.lines().count() <= 12, "{text}");
     }
 }
 
-#[test]
-fn the_readings_agree_where_they_must() {
+fn the_readings_agree_where_they_must(calls: &dyn Calls) {
     // Theorem 1 of Frisch and Stuckey: a value that is defined under strict is
     // Kleene's, and one that is defined under Kleene is the relational one.
     let mut differ = [0u64; 2];
-    for_random_tables(35, &Plan::MIDDLE, rounds(5_000), &mut |table| {
-        let all = assignments(table);
+    for_random_tables(calls, 35, &Plan::MIDDLE, rounds(5_000), &mut |table| {
+        let all = table.assignments();
         if cost::steps(table).saturating_mul(all.len() as u128) > MOST_STEPS {
             return Ok(());
         }
         let bytes = table.bytes();
         for assignment in all {
-            let [strict, kleene, relational] =
-                CHOICES.map(|choice| verdicts(choice, &bytes, &assignment).unwrap_or_default());
+            let [strict, kleene, relational] = CHOICES.map(|choice| {
+                calls
+                    .verdicts(choice, &bytes, &assignment)
+                    .unwrap_or_default()
+            });
             for ((s, k), r) in strict.into_iter().zip(kleene).zip(relational) {
                 let agree = (s == k || s == 2) && (k == r || k == 2) && r != 2;
                 ensure!(agree, "{s} {k} {r} at {assignment:?}");
@@ -211,9 +227,8 @@ fn the_readings_agree_where_they_must() {
     assert!(differ.iter().all(|&times| times > 1_000), "{differ:?}");
 }
 
-#[test]
-fn steps_are_those_of_the_definition() {
-    for_random_tables(36, &Plan::MIDDLE, rounds(5_000), &mut |table| {
+fn steps_are_those_of_the_definition(calls: &dyn Calls) {
+    for_random_tables(calls, 36, &Plan::MIDDLE, rounds(5_000), &mut |table| {
         let steps = cost::steps(table);
         if steps > MOST_STEPS {
             return Ok(());
@@ -221,28 +236,27 @@ fn steps_are_those_of_the_definition() {
         let lowest: Vec<i32> = table.variables.iter().map(|of| of.low).collect();
         let mut room = vec![0; table.constraints.len()];
         let budget = steps as u32;
-        let answer = evaluate(KLEENE, &table.bytes(), &lowest, budget, &mut room);
+        let answer = calls.evaluate(KLEENE, &table.bytes(), &lowest, budget, &mut room);
         let expected = (0, budget);
         ensure!((answer.number, answer.steps) == expected, "{answer:?}");
         Ok(())
     });
 }
 
-#[test]
-fn translations_can_be_translated() {
+fn translations_can_be_translated(calls: &dyn Calls) {
     // Never refused by the check, and the meaning stays.
     let mut random = Random::new(37);
     let mut tables = 0;
     for _ in 0..rounds(3_000) {
         let table = random::table(&mut random, &Plan::SMALL);
         for choice in CHOICES {
-            let once = match translated(choice, &table.bytes()) {
+            let once = match calls.translated(choice, &table.bytes()) {
                 Ok(once) => Table::read(&once),
                 Err(_) => continue,
             };
             for again in CHOICES {
                 let mut seen = Seen::default();
-                assert_eq!(compared(again, again, &once, &mut seen), Ok(()));
+                assert_eq!(compared(calls, again, again, &once, &mut seen), Ok(()));
                 tables += seen.tables;
             }
         }
@@ -250,8 +264,7 @@ fn translations_can_be_translated() {
     assert!(tables > 1_000, "{tables} tables");
 }
 
-#[test]
-fn a_guard_stays_inside_its_binder() {
+fn a_guard_stays_inside_its_binder(calls: &dyn Calls) {
     // The sum over s in −1..1 of 6 div s is undefined, over 1..2 it is 9.
     for (first, last, expected) in [(-1, 1, 0), (1, 2, 1), (1, 0, 0)] {
         let table = Table::new()
@@ -264,8 +277,10 @@ fn a_guard_stays_inside_its_binder() {
             .node(Node::equal(3, 4))
             .constraint(5);
         for choice in CHOICES {
-            let out = translated(choice, &table.bytes()).expect("small numbers");
-            assert_eq!(verdicts(choice, &out, &[]), Ok(vec![expected]));
+            let out = calls
+                .translated(choice, &table.bytes())
+                .expect("small numbers");
+            assert_eq!(calls.verdicts(choice, &out, &[]), Ok(vec![expected]));
         }
     }
 }

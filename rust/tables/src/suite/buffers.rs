@@ -1,21 +1,31 @@
 //! Lent buffers and the order of refusals: what is written, what stays.
 
-mod common;
+use super::{for_random_tables, rounds, Trial};
+use crate::calls::{refused, Answer, Calls, CHOICES, MOST_BYTES};
+use crate::random::Plan;
+use crate::{cost, trials, Node, Table};
 
-use barfigol_peer::{evaluate, translate, Answer};
-use barfigol_tables::random::Plan;
-use barfigol_tables::{cost, trials, Node, Table};
-use common::{for_random_tables, refused, rounds, CHOICES, MOST_BYTES};
+/// All trials of this file.
+pub const TRIALS: &[Trial] = trials![
+    verdicts_are_written_from_the_start,
+    no_constraints,
+    whether_all_are_true,
+    order_of_evaluation_refusals,
+    assignments,
+    order_of_translation_refusals,
+    translations_need_exactly_their_length,
+    random_rooms,
+    random_budgets,
+];
 
 /// A byte that no verdict and hardly a record has.
 const FILL: u8 = 0xa5;
 
-#[test]
-fn verdicts_are_written_from_the_start() {
+fn verdicts_are_written_from_the_start(calls: &dyn Calls) {
     let table = trials::p4().constraint(3).constraint(4).bytes();
     for (room, expected) in [(3, 0), (4, 0), (100, 0), (2, 9), (0, 9)] {
         let mut verdicts = vec![FILL; room];
-        let answer = evaluate(2, &table, &[1], 100, &mut verdicts);
+        let answer = calls.evaluate(2, &table, &[1], 100, &mut verdicts);
         assert_eq!(answer.number, expected);
         if expected == 0 {
             assert_eq!((answer.length, answer.steps), (3, 17));
@@ -28,30 +38,28 @@ fn verdicts_are_written_from_the_start() {
     }
 }
 
-#[test]
-fn no_constraints() {
+fn no_constraints(calls: &dyn Calls) {
     let table = Table::new().node(Node::constant(i32::MAX)).bytes();
     for choice in CHOICES {
-        let answer = evaluate(choice, &table, &[], 0, &mut []);
+        let answer = calls.evaluate(choice, &table, &[], 0, &mut []);
         let expected = Answer {
             all_true: true,
             ..Answer::default()
         };
         assert_eq!(answer, expected);
         let mut room = [FILL; 2];
-        assert_eq!(evaluate(choice, &table, &[], 0, &mut room), expected);
+        assert_eq!(calls.evaluate(choice, &table, &[], 0, &mut room), expected);
         assert_eq!(room, [FILL; 2]);
     }
 }
 
-#[test]
-fn whether_all_are_true() {
+fn whether_all_are_true(calls: &dyn Calls) {
     // One constraint true, one undefined.
     let table = trials::p4().node(Node::truth(1)).constraint(5).bytes();
     let expected = [[2, 1], [2, 1], [1, 1]];
     for (choice, expected) in CHOICES.into_iter().zip(expected) {
         let mut verdicts = [FILL; 2];
-        let answer = evaluate(choice, &table, &[0], 7, &mut verdicts);
+        let answer = calls.evaluate(choice, &table, &[0], 7, &mut verdicts);
         assert_eq!(verdicts, expected);
         assert_eq!(answer.all_true, expected == [1, 1]);
     }
@@ -67,15 +75,14 @@ fn beyond() -> Table {
         .constraint(1)
 }
 
-#[test]
-fn order_of_evaluation_refusals() {
+fn order_of_evaluation_refusals(calls: &dyn Calls) {
     let faulty = [0; 12];
     let table = beyond().bytes();
     let sound = [0, 5];
     // Choice, table, assignment, budget, room, number, record: the faults go
     // away one after the other.
     type Call<'a> = (u32, &'a [u8], &'a [i32], u32, usize, (u32, u32));
-    let calls: [Call<'_>; 11] = [
+    let expected: [Call<'_>; 11] = [
         (0, &faulty[1..], &[], 0, 0, (7, 0)),
         (4, &faulty, &[], 0, 0, (7, 0)),
         (259, &faulty, &[], 0, 0, (7, 0)),
@@ -88,16 +95,15 @@ fn order_of_evaluation_refusals() {
         (1, &table, &sound, 2, 1, (11, 0)),
         (1, &table, &sound, 3, 1, (8, 0)),
     ];
-    for (choice, table, assignment, budget, room, (number, record)) in calls {
+    for (choice, table, assignment, budget, room, (number, record)) in expected {
         let mut verdicts = vec![FILL; room];
-        let answer = evaluate(choice, table, assignment, budget, &mut verdicts);
+        let answer = calls.evaluate(choice, table, assignment, budget, &mut verdicts);
         assert_eq!(answer, refused(number, record));
         assert!(verdicts.iter().all(|&byte| byte == FILL));
     }
 }
 
-#[test]
-fn assignments() {
+fn assignments(calls: &dyn Calls) {
     let table = beyond().bytes();
     let expected: [(&[i32], u32); 9] = [
         (&[], 0),
@@ -111,40 +117,41 @@ fn assignments() {
         (&[i32::MIN, i32::MAX], 1),
     ];
     for (assignment, record) in expected {
-        let answer = evaluate(3, &table, assignment, 9, &mut [FILL]);
+        let answer = calls.evaluate(3, &table, assignment, 9, &mut [FILL]);
         assert_eq!(answer, refused(10, record), "{assignment:?}");
     }
     let bools = Table::new().bool_variable().bytes();
     for (value, number) in [(0, 0), (1, 0), (2, 10), (-1, 10)] {
-        let answer = evaluate(1, &bools, &[value], 0, &mut []);
+        let answer = calls.evaluate(1, &bools, &[value], 0, &mut []);
         assert_eq!(answer.number, number, "value {value}");
     }
 }
 
-#[test]
-fn order_of_translation_refusals() {
+fn order_of_translation_refusals(calls: &dyn Calls) {
     let faulty = [0; 12];
     let table = beyond().bytes();
     let p4 = trials::p4().bytes();
-    let calls: [(u32, &[u8], (u32, u32)); 5] = [
+    let expected: [(u32, &[u8], (u32, u32)); 5] = [
         (0, &faulty[1..], (7, 0)),
         (259, &table, (7, 0)),
         (2, &faulty[1..], (1, 0)),
         (2, &faulty, (2, 0)),
         (2, &table, (8, 3)),
     ];
-    for (choice, table, (number, record)) in calls {
-        assert_eq!(translate(choice, table, &mut []), refused(number, record));
+    for (choice, table, (number, record)) in expected {
+        assert_eq!(
+            calls.translate(choice, table, &mut []),
+            refused(number, record)
+        );
     }
-    assert_eq!(translate(2, &p4, &mut []), refused(9, 0));
+    assert_eq!(calls.translate(2, &p4, &mut []), refused(9, 0));
 }
 
-#[test]
-fn translations_need_exactly_their_length() {
+fn translations_need_exactly_their_length(calls: &dyn Calls) {
     let table = trials::p4().bytes();
     for (choice, length) in CHOICES.into_iter().zip([276, 276, 240]) {
         let mut out = vec![FILL; length + 50];
-        let answer = translate(choice, &table, &mut out);
+        let answer = calls.translate(choice, &table, &mut out);
         let expected = Answer {
             length: length as u32,
             ..Answer::default()
@@ -152,10 +159,10 @@ fn translations_need_exactly_their_length() {
         assert_eq!(answer, expected);
         assert!(out[length..].iter().all(|&byte| byte == FILL));
         let mut exact = vec![FILL; length];
-        assert_eq!(translate(choice, &table, &mut exact), expected);
+        assert_eq!(calls.translate(choice, &table, &mut exact), expected);
         assert_eq!(exact[..], out[..length]);
         let mut short = vec![FILL; length - 1];
-        assert_eq!(translate(choice, &table, &mut short), refused(9, 0));
+        assert_eq!(calls.translate(choice, &table, &mut short), refused(9, 0));
         assert!(short.iter().all(|&byte| byte == FILL));
     }
 }
@@ -166,23 +173,21 @@ const WILD: Plan = Plan {
     ..Plan::SMALL
 };
 
-#[test]
-fn random_rooms() {
-    for_random_tables(21, &WILD, rounds(4_000), &mut |table| {
+fn random_rooms(calls: &dyn Calls) {
+    for_random_tables(calls, 21, &WILD, rounds(4_000), &mut |table| {
         CHOICES
             .iter()
-            .try_for_each(|&choice| translation_fits(choice, &table.bytes()))
+            .try_for_each(|&choice| translation_fits(calls, choice, &table.bytes()))
     });
 }
 
-#[test]
-fn random_budgets() {
-    for_random_tables(22, &WILD, rounds(4_000), &mut |table| {
+fn random_budgets(calls: &dyn Calls) {
+    for_random_tables(calls, 22, &WILD, rounds(4_000), &mut |table| {
         let lowest: Vec<i32> = table.variables.iter().map(|of| of.low).collect();
         let highest: Vec<i32> = table.variables.iter().map(|of| of.high).collect();
         for choice in CHOICES {
-            evaluation_fits(choice, table, &lowest)?;
-            evaluation_fits(choice, table, &highest)?;
+            evaluation_fits(calls, choice, table, &lowest)?;
+            evaluation_fits(calls, choice, table, &highest)?;
         }
         Ok(())
     });
@@ -193,9 +198,9 @@ fn untouched(bytes: &[u8]) -> bool {
 }
 
 /// A translation needs its length, and leaves what is beyond it.
-fn translation_fits(choice: u32, table: &[u8]) -> Result<(), String> {
+fn translation_fits(calls: &dyn Calls, choice: u32, table: &[u8]) -> Result<(), String> {
     let mut out = vec![FILL; MOST_BYTES];
-    let answer = translate(choice, table, &mut out);
+    let answer = calls.translate(choice, table, &mut out);
     let length = answer.length as usize;
     ensure!(untouched(&out[length..]), "{answer:?} touches the rest");
     if answer.number != 0 {
@@ -204,18 +209,23 @@ fn translation_fits(choice: u32, table: &[u8]) -> Result<(), String> {
         return Ok(());
     }
     let mut exact = vec![0; length];
-    let again = translate(choice, table, &mut exact);
+    let again = calls.translate(choice, table, &mut exact);
     ensure!(again == answer, "{again:?} in exact room");
     ensure!(exact == out[..length], "other bytes in exact room");
     let mut short = vec![FILL; length - 1];
-    let again = translate(choice, table, &mut short);
+    let again = calls.translate(choice, table, &mut short);
     ensure!(again == refused(9, 0), "{again:?} in too little room");
     ensure!(untouched(&short), "a refusal touches a byte");
     Ok(())
 }
 
 /// An evaluation takes exactly its steps and its room.
-fn evaluation_fits(choice: u32, table: &Table, assignment: &[i32]) -> Result<(), String> {
+fn evaluation_fits(
+    calls: &dyn Calls,
+    choice: u32,
+    table: &Table,
+    assignment: &[i32],
+) -> Result<(), String> {
     let steps = cost::steps(table);
     if steps > 20_000 {
         return Ok(());
@@ -224,7 +234,7 @@ fn evaluation_fits(choice: u32, table: &Table, assignment: &[i32]) -> Result<(),
     let bytes = table.bytes();
     let count = table.constraints.len();
     let mut room = vec![FILL; count + 3];
-    let answer = evaluate(choice, &bytes, assignment, budget, &mut room);
+    let answer = calls.evaluate(choice, &bytes, assignment, budget, &mut room);
     if answer.number != 0 {
         ensure!(answer == refused(8, 0), "{answer:?}");
         ensure!(untouched(&room), "a refusal touches a byte");
@@ -241,11 +251,12 @@ fn evaluation_fits(choice: u32, table: &Table, assignment: &[i32]) -> Result<(),
     ensure!(answer == expected, "{answer:?}");
     ensure!(written.iter().all(|&byte| byte <= 2), "{written:?}");
     ensure!(untouched(rest), "touches the rest");
-    refused_with_less(choice, &bytes, assignment, budget, count)
+    refused_with_less(calls, choice, &bytes, assignment, budget, count)
 }
 
 /// One step or one byte less is refused, and nothing is written.
 fn refused_with_less(
+    calls: &dyn Calls,
     choice: u32,
     table: &[u8],
     assignment: &[i32],
@@ -256,9 +267,9 @@ fn refused_with_less(
         return Ok(());
     }
     let mut room = vec![FILL; count];
-    let answer = evaluate(choice, table, assignment, steps - 1, &mut room);
+    let answer = calls.evaluate(choice, table, assignment, steps - 1, &mut room);
     ensure!(answer == refused(11, 0), "{answer:?} with a step less");
-    let answer = evaluate(choice, table, assignment, 0, &mut room[1..]);
+    let answer = calls.evaluate(choice, table, assignment, 0, &mut room[1..]);
     ensure!(answer == refused(9, 0), "{answer:?} with a byte less");
     ensure!(untouched(&room), "a refusal touches a byte");
     Ok(())

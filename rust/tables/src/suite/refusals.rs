@@ -1,12 +1,39 @@
 //! The check and its numbers 1 to 6, smallest tables first.
 
-mod common;
+use super::{rounds, Trial};
+use crate::calls::{refused, Calls};
+use crate::damage::{self, damaged, with_fault};
+use crate::random::{self, Plan};
+use crate::{bytes_of, pretty, trials, Element, Node, Random, Row, Table, Type};
 
-use barfigol_peer::{check, evaluate, translate};
-use barfigol_tables::damage::{self, damaged, with_fault};
-use barfigol_tables::random::{self, Plan};
-use barfigol_tables::{bytes_of, pretty, trials, Element, Node, Random, Row, Table, Type};
-use common::{checked, refused, rounds};
+/// All trials of this file.
+pub const TRIALS: &[Trial] = trials![
+    sound_tables,
+    lengths,
+    marks_and_order,
+    missing_and_spare_elements,
+    fields_of_the_head,
+    aux_is_always_zero,
+    fields_of_variables,
+    fields_of_slots,
+    fields_of_arrays_and_elements,
+    kinds_of_nodes,
+    unused_fields_of_nodes_and_constraints,
+    numbers_that_name_nothing,
+    operands_are_earlier_nodes,
+    operands_of_the_wrong_type,
+    elements_and_constraints_of_the_wrong_type,
+    a_missing_name_comes_before_a_wrong_type,
+    free_slots,
+    a_sum_binds_its_slot,
+    a_free_slot_under_another_binder_stays_free,
+    types_come_before_free_slots,
+    damaged_tables_are_refused_as_foreseen,
+    each_fault_can_be_asked_for,
+    scrambled_tables_are_refused_alike,
+    arbitrary_bytes_are_refused_alike,
+    variables_as_elements_of_their_type,
+];
 
 /// The bytes of a head that counts right, and some rows.
 fn with_head(rows: &[Row]) -> Vec<u8> {
@@ -16,9 +43,14 @@ fn with_head(rows: &[Row]) -> Vec<u8> {
 }
 
 /// Says what the check finds after a right head.
-fn assert_check(rows: &[Row], number: u32, record: u32) {
+fn assert_check(calls: &dyn Calls, rows: &[Row], number: u32, record: u32) {
     let bytes = with_head(rows);
-    assert_eq!(checked(&bytes), (number, record), "\n{}", pretty(&bytes));
+    assert_eq!(
+        calls.checked(&bytes),
+        (number, record),
+        "\n{}",
+        pretty(&bytes)
+    );
 }
 
 const fn row(mark: &[u8; 2], kind: u8, x: i32, y: i32) -> Row {
@@ -35,14 +67,13 @@ const INTEGER_NODE: Row = row(b"ND", 1, 0, 0);
 const BOOL_NODE: Row = row(b"ND", 2, 1, 0);
 const CONSTRAINT: Row = row(b"CN", 0, 0, 0);
 
-#[test]
-fn sound_tables() {
-    assert_check(&[], 0, 0);
-    assert_check(&[INTEGER_VARIABLE, BOOL_VARIABLE], 0, 0);
-    assert_check(&[SLOT, SLOT], 0, 0);
-    assert_check(&[INTEGER_ARRAY, ELEMENT, BOOL_ARRAY, ELEMENT], 0, 0);
-    assert_check(&[INTEGER_NODE, BOOL_NODE], 0, 0);
-    assert_check(&[BOOL_NODE, CONSTRAINT, CONSTRAINT], 0, 0);
+fn sound_tables(calls: &dyn Calls) {
+    assert_check(calls, &[], 0, 0);
+    assert_check(calls, &[INTEGER_VARIABLE, BOOL_VARIABLE], 0, 0);
+    assert_check(calls, &[SLOT, SLOT], 0, 0);
+    assert_check(calls, &[INTEGER_ARRAY, ELEMENT, BOOL_ARRAY, ELEMENT], 0, 0);
+    assert_check(calls, &[INTEGER_NODE, BOOL_NODE], 0, 0);
+    assert_check(calls, &[BOOL_NODE, CONSTRAINT, CONSTRAINT], 0, 0);
     let all = [
         INTEGER_VARIABLE,
         SLOT,
@@ -51,52 +82,51 @@ fn sound_tables() {
         BOOL_NODE,
         CONSTRAINT,
     ];
-    assert_check(&all, 0, 0);
+    assert_check(calls, &all, 0, 0);
 }
 
-#[test]
-fn lengths() {
+fn lengths(calls: &dyn Calls) {
     let head = with_head(&[]);
     for length in [0, 1, 11, 13, 23, 60_001, 60_012, 120_000] {
         let mut bytes = head.clone();
         bytes.resize(length, 0);
-        assert_eq!(checked(&bytes), (1, 0), "{length} bytes");
+        assert_eq!(calls.checked(&bytes), (1, 0), "{length} bytes");
     }
 }
 
-#[test]
-fn marks_and_order() {
-    assert_eq!(checked(&[0; 12]), (2, 0));
-    assert_eq!(checked(&bytes_of(&[INTEGER_VARIABLE])), (2, 0));
-    assert_eq!(checked(&bytes_of(&[CONSTRAINT, Row::head(2)])), (2, 0));
-    assert_check(&[row(b"XX", 0, 0, 0)], 2, 1);
-    assert_check(&[row(b"nd", 2, 1, 0)], 2, 1);
-    assert_check(&[Row::head(2)], 2, 1);
-    assert_check(&[ELEMENT], 2, 1);
-    assert_check(&[SLOT, INTEGER_VARIABLE], 2, 2);
-    assert_check(&[INTEGER_ARRAY, ELEMENT, SLOT], 2, 3);
-    assert_check(&[INTEGER_ARRAY, ELEMENT, INTEGER_VARIABLE], 2, 3);
-    assert_check(&[BOOL_NODE, INTEGER_ARRAY, ELEMENT], 2, 2);
-    assert_check(&[BOOL_NODE, CONSTRAINT, BOOL_NODE], 2, 3);
-    assert_check(&[BOOL_NODE, SLOT], 2, 2);
-    assert_check(&[BOOL_NODE, CONSTRAINT, Row::head(4)], 2, 3);
+fn marks_and_order(calls: &dyn Calls) {
+    assert_eq!(calls.checked(&[0; 12]), (2, 0));
+    assert_eq!(calls.checked(&bytes_of(&[INTEGER_VARIABLE])), (2, 0));
+    assert_eq!(
+        calls.checked(&bytes_of(&[CONSTRAINT, Row::head(2)])),
+        (2, 0)
+    );
+    assert_check(calls, &[row(b"XX", 0, 0, 0)], 2, 1);
+    assert_check(calls, &[row(b"nd", 2, 1, 0)], 2, 1);
+    assert_check(calls, &[Row::head(2)], 2, 1);
+    assert_check(calls, &[ELEMENT], 2, 1);
+    assert_check(calls, &[SLOT, INTEGER_VARIABLE], 2, 2);
+    assert_check(calls, &[INTEGER_ARRAY, ELEMENT, SLOT], 2, 3);
+    assert_check(calls, &[INTEGER_ARRAY, ELEMENT, INTEGER_VARIABLE], 2, 3);
+    assert_check(calls, &[BOOL_NODE, INTEGER_ARRAY, ELEMENT], 2, 2);
+    assert_check(calls, &[BOOL_NODE, CONSTRAINT, BOOL_NODE], 2, 3);
+    assert_check(calls, &[BOOL_NODE, SLOT], 2, 2);
+    assert_check(calls, &[BOOL_NODE, CONSTRAINT, Row::head(4)], 2, 3);
 }
 
-#[test]
-fn missing_and_spare_elements() {
+fn missing_and_spare_elements(calls: &dyn Calls) {
     let two = row(b"AR", 1, 0, 2);
-    assert_check(&[INTEGER_ARRAY], 2, 2);
-    assert_check(&[two, ELEMENT], 2, 3);
-    assert_check(&[two, ELEMENT, INTEGER_NODE], 2, 3);
-    assert_check(&[two, ELEMENT, INTEGER_ARRAY, ELEMENT], 2, 3);
-    assert_check(&[two, ELEMENT, Row::head(4)], 2, 3);
-    assert_check(&[INTEGER_ARRAY, ELEMENT, ELEMENT], 2, 3);
-    assert_check(&[INTEGER_NODE, ELEMENT], 2, 2);
-    assert_check(&[INTEGER_VARIABLE, ELEMENT], 2, 2);
+    assert_check(calls, &[INTEGER_ARRAY], 2, 2);
+    assert_check(calls, &[two, ELEMENT], 2, 3);
+    assert_check(calls, &[two, ELEMENT, INTEGER_NODE], 2, 3);
+    assert_check(calls, &[two, ELEMENT, INTEGER_ARRAY, ELEMENT], 2, 3);
+    assert_check(calls, &[two, ELEMENT, Row::head(4)], 2, 3);
+    assert_check(calls, &[INTEGER_ARRAY, ELEMENT, ELEMENT], 2, 3);
+    assert_check(calls, &[INTEGER_NODE, ELEMENT], 2, 2);
+    assert_check(calls, &[INTEGER_VARIABLE, ELEMENT], 2, 2);
 }
 
-#[test]
-fn fields_of_the_head() {
+fn fields_of_the_head(calls: &dyn Calls) {
     let heads = [
         row(b"HD", 0, 1, 0),
         row(b"HD", 2, 1, 0),
@@ -112,15 +142,14 @@ fn fields_of_the_head() {
         },
     ];
     for head in heads {
-        assert_eq!(checked(&bytes_of(&[head])), (3, 0), "{head:?}");
+        assert_eq!(calls.checked(&bytes_of(&[head])), (3, 0), "{head:?}");
     }
     // A wrong count hides every later fault.
     let rows = [Row::head(3), row(b"XX", 0, 0, 0)];
-    assert_eq!(checked(&bytes_of(&rows)), (3, 0));
+    assert_eq!(calls.checked(&bytes_of(&rows)), (3, 0));
 }
 
-#[test]
-fn aux_is_always_zero() {
+fn aux_is_always_zero(calls: &dyn Calls) {
     let rows = [
         BOOL_VARIABLE,
         SLOT,
@@ -132,12 +161,11 @@ fn aux_is_always_zero() {
     for place in 0..rows.len() {
         let mut rows = rows;
         rows[place].aux = 1;
-        assert_check(&rows, 3, place as u32 + 1);
+        assert_check(calls, &rows, 3, place as u32 + 1);
     }
 }
 
-#[test]
-fn fields_of_variables() {
+fn fields_of_variables(calls: &dyn Calls) {
     let faulty = [
         row(b"VR", 0, 0, 0),
         row(b"VR", 0, 1, 1),
@@ -149,14 +177,13 @@ fn fields_of_variables() {
         row(b"VR", 255, 0, 1),
     ];
     for variable in faulty {
-        assert_check(&[variable], 3, 1);
+        assert_check(calls, &[variable], 3, 1);
     }
-    assert_check(&[row(b"VR", 1, i32::MIN, i32::MAX)], 0, 0);
-    assert_check(&[row(b"VR", 1, -5, -5)], 0, 0);
+    assert_check(calls, &[row(b"VR", 1, i32::MIN, i32::MAX)], 0, 0);
+    assert_check(calls, &[row(b"VR", 1, -5, -5)], 0, 0);
 }
 
-#[test]
-fn fields_of_slots() {
+fn fields_of_slots(calls: &dyn Calls) {
     let limit = 1_000_000_000;
     let faulty = [
         row(b"SL", 1, 0, 1),
@@ -172,7 +199,7 @@ fn fields_of_slots() {
         row(b"SL", 0, -limit, limit),
     ];
     for slot in faulty {
-        assert_check(&[slot], 3, 1);
+        assert_check(calls, &[slot], 3, 1);
     }
     let sound = [
         row(b"SL", 0, 1, 10_000),
@@ -182,12 +209,11 @@ fn fields_of_slots() {
         row(b"SL", 0, -limit, -limit + 9_999),
     ];
     for slot in sound {
-        assert_check(&[slot], 0, 0);
+        assert_check(calls, &[slot], 0, 0);
     }
 }
 
-#[test]
-fn fields_of_arrays_and_elements() {
+fn fields_of_arrays_and_elements(calls: &dyn Calls) {
     let limit = 1_000_000_000;
     let faulty = [
         row(b"AR", 2, 0, 1),
@@ -199,20 +225,19 @@ fn fields_of_arrays_and_elements() {
     ];
     for array in faulty {
         // Nothing after a faulty array is looked at.
-        assert_check(&[array], 3, 1);
-        assert_check(&[array, row(b"XX", 0, 0, 0)], 3, 1);
+        assert_check(calls, &[array], 3, 1);
+        assert_check(calls, &[array, row(b"XX", 0, 0, 0)], 3, 1);
     }
-    assert_check(&[row(b"AR", 1, limit, 1), ELEMENT], 0, 0);
-    assert_check(&[INTEGER_ARRAY, row(b"EL", 0, i32::MIN, 0)], 0, 0);
-    assert_check(&[INTEGER_ARRAY, row(b"EL", 2, 0, 0)], 3, 2);
-    assert_check(&[INTEGER_ARRAY, row(b"EL", 0, 0, 1)], 3, 2);
-    assert_check(&[BOOL_ARRAY, row(b"EL", 0, 2, 0)], 3, 2);
-    assert_check(&[BOOL_ARRAY, row(b"EL", 0, -1, 0)], 3, 2);
-    assert_check(&[BOOL_ARRAY, row(b"EL", 1, 0, 1)], 3, 2);
+    assert_check(calls, &[row(b"AR", 1, limit, 1), ELEMENT], 0, 0);
+    assert_check(calls, &[INTEGER_ARRAY, row(b"EL", 0, i32::MIN, 0)], 0, 0);
+    assert_check(calls, &[INTEGER_ARRAY, row(b"EL", 2, 0, 0)], 3, 2);
+    assert_check(calls, &[INTEGER_ARRAY, row(b"EL", 0, 0, 1)], 3, 2);
+    assert_check(calls, &[BOOL_ARRAY, row(b"EL", 0, 2, 0)], 3, 2);
+    assert_check(calls, &[BOOL_ARRAY, row(b"EL", 0, -1, 0)], 3, 2);
+    assert_check(calls, &[BOOL_ARRAY, row(b"EL", 1, 0, 1)], 3, 2);
 }
 
-#[test]
-fn kinds_of_nodes() {
+fn kinds_of_nodes(calls: &dyn Calls) {
     for kind in 0..=255 {
         let exists = (1..=17).contains(&kind) || (20..=30).contains(&kind);
         let node = [row(b"ND", kind, -1, 0)];
@@ -222,66 +247,62 @@ fn kinds_of_nodes() {
             _ if exists => 4,
             _ => 3,
         };
-        assert_check(&node, number, u32::from(number != 0));
+        assert_check(calls, &node, number, u32::from(number != 0));
     }
 }
 
-#[test]
-fn unused_fields_of_nodes_and_constraints() {
+fn unused_fields_of_nodes_and_constraints(calls: &dyn Calls) {
     let unused_y = [1, 2, 3, 4, 5, 11, 14, 24];
     let declared = [INTEGER_VARIABLE, SLOT, INTEGER_NODE, BOOL_NODE];
     for kind in unused_y {
         let mut rows = declared.to_vec();
         rows.push(row(b"ND", kind, 0, 1));
-        assert_check(&rows, 3, 5);
+        assert_check(calls, &rows, 3, 5);
     }
-    assert_check(&[row(b"ND", 2, 2, 0)], 3, 1);
-    assert_check(&[row(b"ND", 2, -1, 0)], 3, 1);
-    assert_check(&[BOOL_NODE, row(b"CN", 1, 0, 0)], 3, 2);
-    assert_check(&[BOOL_NODE, row(b"CN", 0, 0, 1)], 3, 2);
+    assert_check(calls, &[row(b"ND", 2, 2, 0)], 3, 1);
+    assert_check(calls, &[row(b"ND", 2, -1, 0)], 3, 1);
+    assert_check(calls, &[BOOL_NODE, row(b"CN", 1, 0, 0)], 3, 2);
+    assert_check(calls, &[BOOL_NODE, row(b"CN", 0, 0, 1)], 3, 2);
     // 3 comes before 4.
-    assert_check(&[row(b"CN", 1, 5, 0)], 3, 1);
-    assert_check(&[row(b"ND", 11, 5, 1)], 3, 1);
-    assert_check(&[BOOL_ARRAY, row(b"EL", 1, 5, 1)], 3, 2);
+    assert_check(calls, &[row(b"CN", 1, 5, 0)], 3, 1);
+    assert_check(calls, &[row(b"ND", 11, 5, 1)], 3, 1);
+    assert_check(calls, &[BOOL_ARRAY, row(b"EL", 1, 5, 1)], 3, 2);
 }
 
-#[test]
-fn numbers_that_name_nothing() {
+fn numbers_that_name_nothing(calls: &dyn Calls) {
     for number in [1, 2, -1, 256, 65_536, i32::MIN, i32::MAX] {
         let mut rows = vec![INTEGER_VARIABLE, row(b"ND", 3, number, 0)];
-        assert_check(&rows, 4, 2);
+        assert_check(calls, &rows, 4, 2);
         rows = vec![BOOL_VARIABLE, row(b"ND", 4, number, 0)];
-        assert_check(&rows, 4, 2);
+        assert_check(calls, &rows, 4, 2);
         rows = vec![SLOT, row(b"ND", 5, number, 0)];
-        assert_check(&rows, 4, 2);
+        assert_check(calls, &rows, 4, 2);
         rows = vec![INTEGER_NODE, row(b"ND", 11, number, 0)];
-        assert_check(&rows, 4, 2);
+        assert_check(calls, &rows, 4, 2);
         rows = vec![INTEGER_ARRAY, ELEMENT, INTEGER_NODE];
         rows.push(row(b"ND", 15, number, 0));
-        assert_check(&rows, 4, 4);
+        assert_check(calls, &rows, 4, 4);
         rows = vec![SLOT, BOOL_NODE, row(b"ND", 29, number, 0)];
-        assert_check(&rows, 4, 3);
+        assert_check(calls, &rows, 4, 3);
         rows = vec![SLOT, BOOL_NODE, row(b"ND", 29, 0, number)];
-        assert_check(&rows, 4, 3);
+        assert_check(calls, &rows, 4, 3);
         rows = vec![INTEGER_VARIABLE, INTEGER_ARRAY, row(b"EL", 1, number, 0)];
-        assert_check(&rows, 4, 3);
+        assert_check(calls, &rows, 4, 3);
         rows = vec![BOOL_NODE, row(b"CN", 0, number, 0)];
-        assert_check(&rows, 4, 2);
+        assert_check(calls, &rows, 4, 2);
     }
-    assert_check(&[CONSTRAINT], 4, 1);
+    assert_check(calls, &[CONSTRAINT], 4, 1);
 }
 
-#[test]
-fn operands_are_earlier_nodes() {
-    assert_check(&[row(b"ND", 24, 0, 0), BOOL_NODE], 4, 1);
-    assert_check(&[BOOL_NODE, row(b"ND", 24, 1, 0)], 4, 2);
-    assert_check(&[BOOL_NODE, row(b"ND", 24, 2, 0), BOOL_NODE], 4, 2);
-    assert_check(&[INTEGER_NODE, row(b"ND", 6, 0, 1)], 4, 2);
+fn operands_are_earlier_nodes(calls: &dyn Calls) {
+    assert_check(calls, &[row(b"ND", 24, 0, 0), BOOL_NODE], 4, 1);
+    assert_check(calls, &[BOOL_NODE, row(b"ND", 24, 1, 0)], 4, 2);
+    assert_check(calls, &[BOOL_NODE, row(b"ND", 24, 2, 0), BOOL_NODE], 4, 2);
+    assert_check(calls, &[INTEGER_NODE, row(b"ND", 6, 0, 1)], 4, 2);
 }
 
 /// Each kind with an operand of the wrong type.
-#[test]
-fn operands_of_the_wrong_type() {
+fn operands_of_the_wrong_type(calls: &dyn Calls) {
     // Variable 0 and array 0 and node 0 are integer, 1 is Boolean.
     let declared = [
         INTEGER_VARIABLE,
@@ -306,23 +327,34 @@ fn operands_of_the_wrong_type() {
     for (kind, x, y) in faulty {
         let mut rows = declared.to_vec();
         rows.push(row(b"ND", kind, x, y));
-        assert_check(&rows, 5, 10);
+        assert_check(calls, &rows, 5, 10);
     }
-    assert_check(&[INTEGER_NODE, CONSTRAINT], 5, 2);
-    assert_check(&[INTEGER_VARIABLE, BOOL_ARRAY, row(b"EL", 1, 0, 0)], 5, 3);
-    assert_check(&[BOOL_VARIABLE, INTEGER_ARRAY, row(b"EL", 1, 0, 0)], 5, 3);
 }
 
-#[test]
-fn a_missing_name_comes_before_a_wrong_type() {
-    assert_check(&[BOOL_NODE, row(b"ND", 6, 0, 9)], 4, 2);
-    assert_check(&[BOOL_NODE, row(b"ND", 6, 9, 0)], 4, 2);
+fn elements_and_constraints_of_the_wrong_type(calls: &dyn Calls) {
+    assert_check(calls, &[INTEGER_NODE, CONSTRAINT], 5, 2);
+    assert_check(
+        calls,
+        &[INTEGER_VARIABLE, BOOL_ARRAY, row(b"EL", 1, 0, 0)],
+        5,
+        3,
+    );
+    assert_check(
+        calls,
+        &[BOOL_VARIABLE, INTEGER_ARRAY, row(b"EL", 1, 0, 0)],
+        5,
+        3,
+    );
+}
+
+fn a_missing_name_comes_before_a_wrong_type(calls: &dyn Calls) {
+    assert_check(calls, &[BOOL_NODE, row(b"ND", 6, 0, 9)], 4, 2);
+    assert_check(calls, &[BOOL_NODE, row(b"ND", 6, 9, 0)], 4, 2);
     let rows = [BOOL_ARRAY, ELEMENT, INTEGER_NODE, row(b"ND", 15, 0, 9)];
-    assert_check(&rows, 4, 4);
+    assert_check(calls, &rows, 4, 4);
 }
 
-#[test]
-fn free_slots() {
+fn free_slots(calls: &dyn Calls) {
     let open = Table::new().slot(0, 1).slot(0, 1).nodes(&[
         Node::slot(0),
         Node::slot(1),
@@ -338,41 +370,37 @@ fn free_slots() {
     for (node, number) in expected {
         let table = open.clone().constraint(7).constraint(node).bytes();
         let record = if number == 0 { 0 } else { 13 };
-        assert_eq!(checked(&table), (number, record), "node {node}");
+        assert_eq!(calls.checked(&table), (number, record), "node {node}");
     }
 }
 
-#[test]
-fn a_sum_binds_its_slot() {
+fn a_sum_binds_its_slot(calls: &dyn Calls) {
     let table = Table::new().slot(0, 1).nodes(&[
         Node::slot(0),
         Node::sum(0, 0),
         Node::equal(1, 1),
         Node::equal(1, 0),
     ]);
-    assert_eq!(checked(&table.clone().constraint(2).bytes()), (0, 0));
-    assert_eq!(checked(&table.constraint(3).bytes()), (6, 6));
+    assert_eq!(calls.checked(&table.clone().constraint(2).bytes()), (0, 0));
+    assert_eq!(calls.checked(&table.constraint(3).bytes()), (6, 6));
 }
 
-#[test]
-fn a_free_slot_under_another_binder_stays_free() {
+fn a_free_slot_under_another_binder_stays_free(calls: &dyn Calls) {
     let table = Table::new().slot(0, 1).slot(2, 1).nodes(&[
         Node::slot(0),
         Node::equal(0, 0),
         Node::forall(1, 1),
         Node::not(2),
     ]);
-    assert_eq!(checked(&table.constraint(3).bytes()), (6, 7));
+    assert_eq!(calls.checked(&table.constraint(3).bytes()), (6, 7));
 }
 
-#[test]
-fn types_come_before_free_slots() {
+fn types_come_before_free_slots(calls: &dyn Calls) {
     let table = Table::new().slot(0, 1).node(Node::slot(0)).constraint(0);
-    assert_eq!(checked(&table.bytes()), (5, 3));
+    assert_eq!(calls.checked(&table.bytes()), (5, 3));
 }
 
-#[test]
-fn damaged_tables_are_refused_as_foreseen() {
+fn damaged_tables_are_refused_as_foreseen(calls: &dyn Calls) {
     let mut random = Random::new(11);
     let mut seen = [0u32; 7];
     let plan = Plan {
@@ -382,7 +410,7 @@ fn damaged_tables_are_refused_as_foreseen() {
     for _ in 0..rounds(20_000) {
         let table = random::table(&mut random, &plan);
         assert_eq!(
-            checked(&table.bytes()),
+            calls.checked(&table.bytes()),
             (0, 0),
             "\n{}",
             pretty(&table.bytes())
@@ -390,7 +418,7 @@ fn damaged_tables_are_refused_as_foreseen() {
         let found = damaged(&mut random, &table);
         let expected = (found.number, found.record);
         let text = || pretty(&found.bytes);
-        assert_eq!(checked(&found.bytes), expected, "\n{}", text());
+        assert_eq!(calls.checked(&found.bytes), expected, "\n{}", text());
         seen[found.number as usize] += 1;
     }
     for (number, &count) in seen.iter().enumerate().skip(1) {
@@ -398,18 +426,17 @@ fn damaged_tables_are_refused_as_foreseen() {
     }
 }
 
-#[test]
-fn each_fault_can_be_asked_for() {
+fn each_fault_can_be_asked_for(calls: &dyn Calls) {
     let mut random = Random::new(12);
     for number in 1..=6 {
         let found = with_fault(&mut random, &trials::p2(), number).expect("P2 has a place");
-        assert_eq!(checked(&found.bytes), (number, found.record));
+        assert_eq!(calls.checked(&found.bytes), (number, found.record));
     }
 }
 
 /// The three functions refuse a faulty table alike, and touch no lent byte.
-fn refused_alike(table: &[u8]) -> Result<(), String> {
-    let answer = check(table);
+fn refused_alike(calls: &dyn Calls, table: &[u8]) -> Result<(), String> {
+    let answer = calls.check(table);
     let expected = refused(answer.number, answer.record);
     ensure!(answer == expected, "{answer:?}");
     if answer.number == 0 {
@@ -422,9 +449,9 @@ fn refused_alike(table: &[u8]) -> Result<(), String> {
             1..=3 => expected,
             _ => refused(7, 0),
         };
-        let evaluated = evaluate(choice, table, &[], 0, &mut verdicts);
+        let evaluated = calls.evaluate(choice, table, &[], 0, &mut verdicts);
         ensure!(evaluated == expected, "evaluate {choice}: {evaluated:?}");
-        let translated = translate(choice, table, &mut out);
+        let translated = calls.translate(choice, table, &mut out);
         ensure!(translated == expected, "translate {choice}: {translated:?}");
     }
     let touched = verdicts.iter().chain(&out).any(|&byte| byte != 9);
@@ -433,44 +460,41 @@ fn refused_alike(table: &[u8]) -> Result<(), String> {
 }
 
 /// Fails with the shortest table that is not refused alike.
-fn assert_refused_alike(table: &[u8]) {
-    if refused_alike(table).is_err() {
-        let short = damage::shrink(table, &mut |table| refused_alike(table).is_err());
-        panic!("{:?}\n{}", refused_alike(&short), pretty(&short));
+fn assert_refused_alike(calls: &dyn Calls, table: &[u8]) {
+    if refused_alike(calls, table).is_err() {
+        let short = damage::shrink(table, &mut |table| refused_alike(calls, table).is_err());
+        panic!("{:?}\n{}", refused_alike(calls, &short), pretty(&short));
     }
 }
 
-#[test]
-fn scrambled_tables_are_refused_alike() {
+fn scrambled_tables_are_refused_alike(calls: &dyn Calls) {
     let mut random = Random::new(13);
     let mut seen = [0u32; 7];
     for _ in 0..rounds(30_000) {
         let table = random::table(&mut random, &Plan::SMALL);
         let bytes = damage::scrambled(&mut random, &table);
-        seen[check(&bytes).number as usize] += 1;
-        assert_refused_alike(&bytes);
+        seen[calls.check(&bytes).number as usize] += 1;
+        assert_refused_alike(calls, &bytes);
     }
     // Number 6 is rare here. The damaged tables have it often.
     assert!(seen[..6].iter().all(|&count| count > 100), "{seen:?}");
 }
 
-#[test]
-fn arbitrary_bytes_are_refused_alike() {
+fn arbitrary_bytes_are_refused_alike(calls: &dyn Calls) {
     let mut random = Random::new(14);
     for _ in 0..rounds(2_000) {
         let length = 12 * random.below(8) + random.pick(&[0, 0, 0, 5]);
         let bytes: Vec<u8> = (0..length).map(|_| random.bits() as u8).collect();
-        assert_ne!(check(&bytes).number, 0);
-        assert_refused_alike(&bytes);
+        assert_ne!(calls.check(&bytes).number, 0);
+        assert_refused_alike(calls, &bytes);
     }
 }
 
-#[test]
-fn variables_as_elements_of_their_type() {
+fn variables_as_elements_of_their_type(calls: &dyn Calls) {
     let table = Table::new()
         .bool_variable()
         .variable(0, 1)
         .array(Type::Bool, 0, &[Element::Variable(0)])
         .array(Type::Integer, 0, &[Element::Variable(1)]);
-    assert_eq!(checked(&table.bytes()), (0, 0));
+    assert_eq!(calls.checked(&table.bytes()), (0, 0));
 }
