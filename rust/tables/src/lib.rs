@@ -1,11 +1,13 @@
-//! Constraint tables for trials and benchmarks.
+//! Constraint tables: their records, a builder, examples, and tables for trials
+//! and benchmarks.
 //!
 //! [`Table`] is a readable builder. [`trials`] holds the worked examples,
-//! [`limits`] tables at the edges of what is allowed, [`random`] seeded sound
-//! tables of every kind, [`damage`] faulty ones, and [`shrink`] makes a failing
-//! table smaller. [`cases`] makes whole calls, and [`suite`] holds the trials that
-//! every implementation of the [`calls`] has to pass. Nothing here checks or
-//! evaluates a table.
+//! [`placement`] a small model, [`examples`] the files made of both, [`limits`]
+//! tables at the edges of what is allowed, [`random`] seeded sound tables of
+//! every kind, [`damage`] faulty ones, and [`shrink`] makes a failing table
+//! smaller. [`cases`] makes whole calls, and [`suite`] holds the trials that every
+//! implementation of the [`calls`] has to pass. Nothing here checks or evaluates a
+//! table.
 
 #![forbid(unsafe_code)]
 #![warn(missing_docs)]
@@ -15,8 +17,10 @@ pub mod calls;
 pub mod cases;
 pub mod cost;
 pub mod damage;
+pub mod examples;
 pub mod kinds;
 pub mod limits;
+pub mod placement;
 mod prng;
 pub mod random;
 mod row;

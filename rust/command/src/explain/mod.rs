@@ -1,0 +1,174 @@
+//! Explains a refusal: which field of which record is at fault, and why.
+//!
+//! The library gives a number and a record. The rest is worked out here from
+//! the table's bytes. Nothing here decides anything: where no fault is found
+//! that fits the number, the sentence of the number stands alone.
+
+mod faults;
+mod intervals;
+mod place;
+#[cfg(test)]
+mod tests;
+
+use crate::files::MOST_BYTES;
+use barfigol::Refusal;
+use barfigol_tables::{cost, rows_of, Table, ROW_BYTES};
+use intervals::Beyond;
+use place::{numbered, Place};
+
+/// What the library was asked.
+#[derive(Clone, Copy, Debug)]
+pub enum Call<'a> {
+    /// To check the table.
+    Check,
+    /// To translate it, for a list or a file.
+    Translate {
+        /// The number of the reading.
+        choice: u32,
+    },
+    /// To evaluate it.
+    Evaluate {
+        /// The number of the reading.
+        choice: u32,
+        /// The value of each variable.
+        assignment: &'a [i32],
+        /// The most steps.
+        budget: u32,
+    },
+}
+
+/// The explanation of a refusal, in lines. The first one has the number, the
+/// record and the fault; then come the whole record and what the number means.
+pub fn explain(call: Call, table: &[u8], refusal: &Refusal) -> String {
+    let Refusal { number, record } = *refusal;
+    let rows = rows_of(table);
+    let place = Place::new(&rows, record as usize);
+    let fault = fault(call, table, &place, refusal);
+    let meaning = format!("  number {number}: {refusal}\n");
+    if !is_about_record(call, refusal) {
+        return format!("refused {number}: {fault}\n{meaning}");
+    }
+    let title = place.title();
+    let line = place
+        .line()
+        .map_or(String::new(), |line| format!("  record {record}: {line}\n"));
+    format!("refused {number} at record {record} ({title}): {fault}\n{line}{meaning}")
+}
+
+/// What is at fault, or the sentence of the number where that is not found.
+fn fault(call: Call, table: &[u8], place: &Place, refusal: &Refusal) -> String {
+    let faults = match refusal.number {
+        2..=6 => faults::of(place, refusal.number),
+        _ => fault_of_call(call, table, refusal).into_iter().collect(),
+    };
+    if faults.is_empty() {
+        refusal.to_string()
+    } else {
+        faults.join("; ")
+    }
+}
+
+/// Whether the record of a refusal is meant. Refusals of the call as a whole
+/// have record 0 too, which is no word about the head.
+fn is_about_record(call: Call, refusal: &Refusal) -> bool {
+    match (refusal.number, call) {
+        (2..=6, _) => true,
+        (8, Call::Translate { .. }) => true,
+        (10, _) => refusal.record != 0,
+        _ => false,
+    }
+}
+
+/// The fault of a refusal that no record of the table shows by itself.
+fn fault_of_call(call: Call, table: &[u8], refusal: &Refusal) -> Option<String> {
+    match (refusal.number, call) {
+        (1, _) => wrong_length(table.len()),
+        (7, Call::Translate { choice } | Call::Evaluate { choice, .. }) => Some(format!(
+            "{choice} is no reading: 1 strict, 2 kleene, 3 relational"
+        )),
+        (8, Call::Translate { .. }) => too_wide(table, refusal.record as usize),
+        (8, Call::Evaluate { .. }) => too_large(table),
+        (9, Call::Translate { .. }) => {
+            Some(format!("the translation is longer than {MOST_BYTES} bytes"))
+        }
+        (10, Call::Evaluate { assignment, .. }) => match refusal.record {
+            0 => wrong_count(table, assignment.len()),
+            record => outside(table, assignment, record as usize),
+        },
+        (11, Call::Evaluate { budget, .. }) => Some(too_long(table, budget)),
+        _ => None,
+    }
+}
+
+fn wrong_length(length: usize) -> Option<String> {
+    if length < ROW_BYTES {
+        Some(format!(
+            "{} of table, fewer than {ROW_BYTES}",
+            numbered(length, "byte")
+        ))
+    } else if length > MOST_BYTES {
+        Some(format!("more than {MOST_BYTES} bytes of table"))
+    } else if length % ROW_BYTES != 0 {
+        Some(format!(
+            "{length} bytes of table, no multiple of {ROW_BYTES}"
+        ))
+    } else {
+        None
+    }
+}
+
+/// The interval of the node at a record, where it is the first beyond the limit.
+fn too_wide(table: &[u8], record: usize) -> Option<String> {
+    let table = Table::read(table);
+    let Beyond { node, low, high } = intervals::first_beyond(&table)?;
+    if table.first_node_record() + node != record {
+        return None;
+    }
+    Some(format!(
+        "its values lie in {low}..{high}, beyond ±{}",
+        intervals::LIMIT
+    ))
+}
+
+/// A node was met with a value beyond the limit. Which one it was is not told,
+/// but it has an interval beyond the limit, or an operand that has one.
+fn too_large(table: &[u8]) -> Option<String> {
+    let table = Table::read(table);
+    let Beyond { node, .. } = intervals::first_beyond(&table)?;
+    let record = table.first_node_record() + node;
+    let limit = intervals::LIMIT;
+    Some(format!(
+        "a value is beyond ±{limit}; the first node that can pass the limit is node {node} (record {record})"
+    ))
+}
+
+/// The steps of a table, up to a number that is more than anyone can wait for.
+fn too_long(table: &[u8], budget: u32) -> String {
+    let needed = match u64::try_from(cost::steps(&Table::read(table))) {
+        Ok(steps) => numbered(steps, "step"),
+        Err(_) => format!("more than {} steps", u64::MAX),
+    };
+    format!("{needed} needed, the budget is {budget}")
+}
+
+fn wrong_count(table: &[u8], given: usize) -> Option<String> {
+    let wanted = Table::read(table).variables.len();
+    if given == wanted {
+        return None;
+    }
+    let (given, wanted) = (numbered(given, "value"), numbered(wanted, "variable"));
+    Some(format!("{given} given for {wanted}"))
+}
+
+/// The value outside its domain. The record of variable 0 is 1.
+fn outside(table: &[u8], assignment: &[i32], record: usize) -> Option<String> {
+    let number = record.checked_sub(1)?;
+    let value = assignment.get(number)?;
+    let table = Table::read(table);
+    let variable = table.variables.get(number)?;
+    let (low, high) = (variable.low, variable.high);
+    if (low..=high).contains(value) {
+        return None;
+    }
+    Some(format!("value {value} is outside the domain {low}..{high}"))
+}
