@@ -7,6 +7,8 @@ pub mod Demand
 pub mod Elements
 pub mod Faults
 pub mod Fields
+pub mod FirstFault
+pub mod KindRows
 pub mod KindsFit
 pub mod Listed
 pub mod NewArrays
@@ -17,12 +19,16 @@ pub mod NewSections
 pub mod NewTable
 pub mod NewWords
 pub mod NoFaults
+pub mod NodeTrees
 pub mod NodesFit
 pub mod Passed
 pub mod Refusals
 pub mod RowRecords
 pub mod RowWords
+pub mod RunEnds
 pub mod Runs
 pub mod SameFaults
+pub mod SignedWords
+pub mod SoundSections
 pub mod Translatable
 pub mod Trials

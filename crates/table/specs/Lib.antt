@@ -1,3 +1,4 @@
 pub mod Kinds
 pub mod Marks
 pub mod Records
+pub mod Words

@@ -1,9 +1,11 @@
 // The table on disk in code: numbers that cannot be confused, the marks, and the parts of a record.
 ghost use mathlib.Core.Path.{_≡_};
-ghost use Prim.Native.Nat.{_+_, _*_, _<_};
+ghost use Prim.Native.Nat.{_+_, _*_, _≤_, _<_};
+ghost use lib.IntN.{natAbs};
 ghost use Rattle.table.specs.Records as Records;
 ghost use Rattle.table.specs.Records.{recordSize, recordCount, wordAt, kindAt, auxAt, xAt, yAt};
 ghost use Rattle.table.specs.Marks.{markOf};
+ghost use Rattle.table.specs.Words.{lift};
 
 // "Variables, slots, arrays and nodes are each numbered from 0".
 pub struct NodeNumber(pub u32);
@@ -149,4 +151,27 @@ pub fn y_at(table: &[u8], p: usize) -> i32
     ensures { λ r. ⌜ r ≡ yAt (now (table .entry)) p ⌝ }
 {
     signed(y_bits(table, p))
+}
+
+// The magnitude of the signed number that 32 bits stand for.
+pub fn magnitude(bits: u32) -> usize
+    ensures { λ r. ⌜ r ≡ natAbs (Records.signed bits) ⌝ }
+    ensures { λ r. ⌜ r ≤ 0x8000_0000 ⌝ }
+{
+    if bits < 0x8000_0000 {
+        bits as usize
+    } else {
+        0x1_0000_0000 - bits as usize
+    }
+}
+
+// 32 bits as a number in the order of the signed numbers: the sign bit turned over.
+pub fn lifted(bits: u32) -> u32
+    ensures { λ r. ⌜ r ≡ lift bits ⌝ }
+{
+    if bits < 0x8000_0000 {
+        bits + 0x8000_0000
+    } else {
+        bits - 0x8000_0000
+    }
 }

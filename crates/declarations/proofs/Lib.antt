@@ -1,0 +1,3 @@
+pub mod ArrayWalk
+pub mod ElementTests
+pub mod Tests
