@@ -1,18 +1,17 @@
 -- The intervals of what a table declares, read from its records.
 -- Assumes nothing.
 use mathlib.Core.Path.{_≡_, refl, sym, ap, _∙_}
-use Prim.Native.Nat.{ℕ, zero, suc, _+_, _≤_, _<_}
+use Prim.Native.Nat.{ℕ, suc, _+_, _≤_, _<_}
 use native.Mathlib.Omega.{arith}
-use mathlib.Core.Bool.{true, false}
 use mathlib.Core.List.{List, [], _∷_, _++_}
 use borrow.Author.Tests.{eq-eqb, ne-eqb}
 use lib.IntN.{ℤ, pos, natAbs}
 use lib.ListN.{length, getD}
 use mathlib.Core.Logic.{⊎-elim}
 use Rattle.numbers.proofs.Naturals.{lt-or-ge}
-use Rattle.language.specs.Syntax.{Slot, Element, fixed, ofVariable, Declarations}
+use Rattle.language.specs.Syntax.{Element, Declarations}
 use Rattle.language.specs.Meaning.{slotAt, noSlot, arrayAt, noArray}
-use Rattle.rules.specs.Bounds.{Interval, _to_, hull, only, variableAt, variableInterval, noVariable, elementInterval, hullWith, elementsInterval}
+use Rattle.rules.specs.Bounds.{Interval, _to_, hull, only, variableInterval, noVariable, elementInterval, hullWith, elementsInterval}
 use Rattle.table.specs.Records.{recordCount, kindAt, xAt, yAt}
 use Rattle.answers.specs.Sections.{listed, declarations, variablesAt, slotsAt, variableCount, slotCount, variableOf, slotOf, elementOf, arrayOf, arrayRecords, arraysAt, nodesAt, behindArray}
 use Rattle.layout.proofs.Numbered.{length-listed, variable-at, no-variable-at, slot-at, no-slot-at, array-at, no-array-at}

@@ -1,27 +1,26 @@
 -- The interval of a node by its record's kind.
 -- Assumes nothing.
 use mathlib.Core.Path.{_≡_, refl, sym, ap, _∙_}
-use Prim.Native.Nat.{ℕ, zero, suc, _+_, _≤_, _<_}
+use Prim.Native.Nat.{ℕ, _+_, _≤_, _<_}
 use native.Mathlib.Omega.{arith}
 use mathlib.Core.Bool.{true, false, _&&_}
 use mathlib.Core.Logic.{⊎-elim}
 use lib.Dec.{T, leb→le}
 use mathlib.Core.List.{List}
 use mathlib.Core.Option.{Option, none, some}
-use lib.IntN.{ℤ, pos, negℤ, _*ℤ_, natAbs}
-use lib.ListN.{getD, set, replicate, List·getD-eq-default}
+use lib.IntN.{ℤ, pos, natAbs}
+use lib.ListN.{set, replicate, List·getD-eq-default}
 use Rattle.numbers.specs.Whole.{withinLimit}
 use Rattle.numbers.proofs.Naturals.{lt-or-ge}
 use Rattle.numbers.proofs.Tests.{&&-fst, &&-snd}
-use Rattle.numbers.specs.Limits.{limit}
-use Rattle.numbers.proofs.Splits.{Below, From, split}
-use Rattle.language.specs.Syntax.{constant, plus, minus, times, least, most, quot, rem, Declarations, Array}
+use Rattle.numbers.proofs.Splits.{split}
+use Rattle.language.specs.Syntax.{constant, plus, minus, times, least, most, quot, rem, Declarations}
 use Rattle.language.specs.Tables.{Row, truthRow, Tree, whole, bool, asI, treeAt, treeI, fill, trees}
 use Rattle.language.proofs.Trees.{length-trees, treeAt-take}
 use Rattle.language.specs.Meaning.{slotAt, arrayAt, count}
 use Rattle.rules.specs.Bounds.{Interval, _to_, only, arithInterval, divideInterval, slotInterval, variableInterval, elementsInterval, interval, withinBounds}
 use Rattle.table.specs.Records.{kindAt, xAt, yAt}
-use Rattle.table.specs.Kinds.{Kind, kinds, kindOf}
+use Rattle.table.specs.Kinds.{kinds, kindOf}
 use Rattle.answers.specs.Sections.{listed, nodesAt, nodeCount, rowOf, rows, nodeTrees, declarations}
 use Rattle.answers.specs.Check.{refuse, unless, firstFault}
 use Rattle.answers.specs.Answers.{boundsFault}

@@ -1,13 +1,13 @@
 // "Bounds before translation": the interval of every node in one pass, which stops at the first one beyond the limit.
 ghost use mathlib.Core.Path.{_≡_};
 ghost use Prim.Native.Nat.{_+_, _<_, _≤_};
-ghost use lib.IntN.{pos, natAbs};
-ghost use lib.ListN.{getD, length, replicate};
+ghost use lib.IntN.{pos};
+ghost use lib.ListN.{getD, replicate};
 ghost use Rattle.numbers.specs.Limits.{mostArrays};
 ghost use Rattle.language.specs.Meaning.{slotAt};
 ghost use Rattle.rules.specs.Bounds.{variableInterval, elementInterval, elementsInterval};
-ghost use Rattle.table.specs.Records.{recordCount, yAt};
-ghost use Rattle.answers.specs.Sections.{declarations, elementOf, arrayOf, behindArray, slotsAt, nodeCount};
+ghost use Rattle.table.specs.Records.{recordCount};
+ghost use Rattle.answers.specs.Sections.{declarations, elementOf, arrayOf, behindArray, nodeCount};
 ghost use Rattle.answers.specs.Answers.{boundsFault};
 ghost use Rattle.layout.specs.Passed.{Passed};
 ghost use Rattle.layout.specs.Places.{layoutOf};

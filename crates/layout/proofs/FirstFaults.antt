@@ -1,13 +1,13 @@
 -- The first fault among numbered things: none so far, or the first one, whatever stands behind it.
 -- Assumes nothing.
-use mathlib.Core.Path.{_≡_, refl, sym, ap, _∙_}
+use mathlib.Core.Path.{_≡_}
 use mathlib.Core.Logic.{⊎-elim}
-use Prim.Native.Nat.{ℕ, zero, suc, _+_, _≤_, _<_}
+use Prim.Native.Nat.{ℕ, zero, suc, _+_, _<_}
 use native.Mathlib.Omega.{arith}
 use native.Mathlib.Numerals.{add-one}
 use mathlib.Core.Option.{Option, none, some, orElse}
 use Rattle.numbers.proofs.Naturals.{lt-or-ge}
-use Rattle.answers.specs.Check.{Refusal, refuse, firstFault}
+use Rattle.answers.specs.Check.{refuse, firstFault}
 
 module _ (own : ℕ → Option ℕ) (p : ℕ) where
   -- One thing more without a fault.

@@ -1,6 +1,6 @@
 -- Laws of a list given by its elements' numbers, and what a table's declarations hold at each number.
 -- Assumes nothing.
-use mathlib.Core.Path.{_≡_, refl, sym, ap, _∙_}
+use mathlib.Core.Path.{_≡_, refl, _∙_}
 use mathlib.Core.Logic.{⊎-elim}
 use Prim.Native.Nat.{ℕ, zero, suc, _+_, _≤_, _<_}
 use native.Mathlib.Omega.{arith}
@@ -8,7 +8,6 @@ use mathlib.Core.List.{List, [], _∷_, _++_, map}
 use lib.ListN.{length, getD, take, length-append, length-map, List·getD-append, List·getD-eq-default}
 use lib.Seq.{getD-at, take-append-le, take-all}
 use Rattle.numbers.proofs.Naturals.{lt-or-ge}
-use Rattle.language.specs.Syntax.{Slot, Variable, Array}
 use Rattle.language.specs.Meaning.{slotAt, arrayAt, noSlot, noArray}
 use Rattle.rules.specs.Bounds.{variableAt, noVariable}
 use Rattle.answers.specs.Sections.{listed, variablesAt, slotsAt, variableCount, slotCount, variableOf, slotOf, arrayOf, arrayRecords, declarations}

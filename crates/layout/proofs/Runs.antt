@@ -1,16 +1,16 @@
 -- Runs of one mark, and arrays with their elements: where they stop, what one more record adds, and that a walk's length does not
 -- matter once it reaches the table's end.
 -- Assumes nothing.
-use mathlib.Core.Path.{_≡_, refl, sym, ap, _∙_}
-use Prim.Native.Nat.{ℕ, zero, suc, _+_, _-_, _*_, _%_, _≤_, _<_}
+use mathlib.Core.Path.{_≡_, refl}
+use Prim.Native.Nat.{ℕ, zero, suc, _+_, _*_, _%_, _≤_, _<_}
 use native.Mathlib.Omega.{arith}
-use mathlib.Core.Bool.{Bool, true, false, _&&_}
+use mathlib.Core.Bool.{true, false}
 use mathlib.Core.List.{List, [], _∷_}
 use lib.Dec.{eqb}
 use lib.IntN.{natAbs}
-use lib.ListN.{length, getD, List·getD-eq-default}
+use lib.ListN.{length, List·getD-eq-default}
 use Rattle.table.specs.Records.{Mark, HD, VR, SL, AR, EL, ND, CN, recordSize, recordCount, byteAt, marked, firstLetter, secondLetter, yAt}
-use Rattle.answers.specs.Sections.{runEnd, endOf, behindArray, arraysFrom, arraysEnd}
+use Rattle.answers.specs.Sections.{runEnd, behindArray, arraysFrom, arraysEnd}
 use Rattle.layout.specs.Bytes.{lettered}
 
 -- No mark begins with a 0.

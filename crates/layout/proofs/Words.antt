@@ -1,7 +1,7 @@
 -- What 32 bits stand for as a signed number, by its highest bit.
 -- Assumes nothing.
-use mathlib.Core.Path.{_≡_, refl, ap, _∙_}
-use Prim.Native.Nat.{ℕ, suc, _+_, _-_, _*_, _≤_, _<_}
+use mathlib.Core.Path.{_≡_, ap}
+use Prim.Native.Nat.{ℕ, _+_, _-_, _*_, _≤_, _<_}
 use mathlib.Core.List.{List}
 use native.Mathlib.Omega.{arith}
 use borrow.Author.Tests.{lt-ltb, le-ltb}
@@ -10,7 +10,7 @@ use mir.Syntax.{w64}
 use mir.Val.{SFits}
 use Rattle.numbers.proofs.Tests.{cond-cases}
 use Rattle.numbers.proofs.Magnitudes.{natAbs→fits}
-use lib.IntN.{ℤ, pos, negsuc, _-ℤ_, natAbs}
+use lib.IntN.{pos, negsuc, _-ℤ_, natAbs}
 use Rattle.table.specs.Records.{signed, recordSize, wordAt, xAt, yAt}
 
 pub signed-low : (w : ℕ) → w < 0x8000_0000 → signed w ≡ pos w

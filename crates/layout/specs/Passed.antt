@@ -1,12 +1,12 @@
--- What the sections of a checked table owe to the check: whole records, few arrays, and elements that end within the table.
+-- What the code relies on in a checked table: whole records, few arrays, elements that end within the table, and kinds that exist.
 -- Assumes nothing.
 use mathlib.Core.Path.{_≡_}
-use Prim.Native.Nat.{ℕ, _%_, _≤_}
+use Prim.Native.Nat.{ℕ, _+_, _%_, _≤_, _<_}
 use mathlib.Core.List.{List}
 use lib.ListN.{length}
 use Rattle.numbers.specs.Limits.{mostBytes, mostArrays}
-use Rattle.table.specs.Records.{recordSize, recordCount}
-use Rattle.answers.specs.Sections.{arrayRecords, nodesAt}
+use Rattle.table.specs.Records.{recordSize, recordCount, kindAt}
+use Rattle.answers.specs.Sections.{arrayRecords, nodesAt, nodeCount}
 
 pub record Passed (bs : List ℕ) : Type 0 where
   pub some-record : recordSize ≤ length bs
@@ -14,3 +14,4 @@ pub record Passed (bs : List ℕ) : Type 0 where
   pub short : length bs ≤ mostBytes
   pub few-arrays : length (arrayRecords bs) ≤ mostArrays
   pub inside : nodesAt bs ≤ recordCount bs
+  pub known-kinds : (n : ℕ) → n < nodeCount bs → kindAt bs (nodesAt bs + n) < 31

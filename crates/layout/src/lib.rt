@@ -1,10 +1,8 @@
 // A checked table's records: their fields, and where each section begins.
 ghost use mathlib.Core.Path.{_≡_};
-ghost use Prim.Native.Nat.{_+_, _*_, _<_, _≤_, _%_};
+ghost use Prim.Native.Nat.{_+_, _<_, _%_};
 ghost use lib.ListN.{length};
-ghost use Rattle.numbers.specs.Limits.{mostArrays};
 ghost use Rattle.table.specs.Records.{recordSize};
-ghost use Rattle.answers.specs.Sections.{arraysAt, arrayRecords};
 ghost use Rattle.layout.specs.Passed.{Passed};
 ghost use Rattle.layout.specs.Places.{EndOfRun, arraysOf, layoutOf, ArraysHeld};
 use crate::fields::marked;

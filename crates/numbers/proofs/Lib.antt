@@ -6,3 +6,4 @@ pub mod Parts
 pub mod Splits
 pub mod Tests
 pub mod Trials
+pub mod Widths

@@ -1,7 +1,7 @@
 -- Magnitudes of sums, differences and products, and that a number of small magnitude fits 64 bits.
 -- Assumes nothing.
-use mathlib.Core.Path.{_≡_, refl, _∙_}
-use Prim.Native.Nat.{ℕ, zero, suc, _+_, _*_, _≤_, _<_}
+use mathlib.Core.Path.{_≡_, refl}
+use Prim.Native.Nat.{suc, _+_, _*_, _≤_, _<_}
 use native.Mathlib.Omega.{arith}
 use lib.IntN.{ℤ, pos, negsuc, negℤ, _+ℤ_, _-ℤ_, _*ℤ_, natAbs}
 use mir.Syntax.{w64}
@@ -9,7 +9,7 @@ use mir.Val.{SFits, toZ, ofZ}
 use mir.Facts.{toZ-ofZ}
 use native.Mathlib.Nat.{mul-le-mul}
 use Rattle.numbers.specs.Limits.{limit}
-use Rattle.numbers.proofs.Parts.{+-parts, natAbs-parts, up-neg, dn-neg}
+use Rattle.numbers.proofs.Parts.{+-parts, natAbs-parts}
 use Rattle.numbers.proofs.Division.{natAbs-neg}
 
 -- A sum and a difference are of no greater magnitude than the operands together.

@@ -1,6 +1,7 @@
 -- A case split on the first numbers, one by one, and the rest.
 -- Assumes nothing.
-use Prim.Native.Nat.{ℕ, zero, suc, _+_}
+use Prim.Native.Nat.{ℕ, zero, suc, _<_}
+use native.Mathlib.Omega.{arith}
 
 -- P of each number below n
 abbrev pub Below : ℕ → (ℕ → Type 0) → Type 0
@@ -16,3 +17,9 @@ pub split : (n : ℕ) (P : ℕ → Type 0) → Below n P → From n P → (k : �
 split zero P few rest k = rest k
 split (suc n) P few rest zero = few .0
 split (suc n) P few rest (suc k) = split n (λ m. P (suc m)) (few .1) rest k
+
+-- The cases below n, read at one number.
+pub below-at : (n : ℕ) (P : ℕ → Type 0) → Below n P → (k : ℕ) → k < n → P k
+below-at zero P few k h = absurd (omega arith)
+below-at (suc n) P few zero h = few .0
+below-at (suc n) P few (suc k) h = below-at n (λ m. P (suc m)) (few .1) k (omega arith)

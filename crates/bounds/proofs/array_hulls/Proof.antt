@@ -1,23 +1,19 @@
+-- `bounds::array_hulls` meets its contract.
+-- Assumes nothing.
 use Rattle.bounds.proofs.Declared.{array-elements, behind-inside, hulls-of}
 use mir.Facts.{toZ-ofZ}
 use Rattle.layout.proofs.Order.{laid}
-use Rattle.layout.specs.Places.{ArraysHeld}
 use Rattle.bounds.proofs.Filled.{Filled, filled-none, filled-more}
 use Rattle.answers.specs.Sections.{declarations, arrayRecords}
 use Rattle.rules.specs.Bounds.{Interval, elementsInterval}
 use Rattle.language.specs.Meaning.{arrayAt}
 use Rattle.numbers.specs.Limits.{mostArrays}
-use lib.ListN.{length, getD, length-set}
+use lib.ListN.{length}
 use native.Mathlib.Omega.{arith}
-use Prim.Native.Nat.{ℕ, _+_, _-_, _<_, _≤_}
-use mathlib.Core.Path.{_≡_, sym, ap, _∙_}
-use borrow.Author.Needs.{needs}
+use Prim.Native.Nat.{_-_, _<_, _≤_}
+use mathlib.Core.Path.{sym, ap, _∙_}
 use Rattle.bounds.proofs.array_hulls.Statement.{statement}
 use Rattle.bounds.proofs.array_hulls.Tie as tie
-use Rattle.bounds.proofs.array_hulls.Reads as reads
-use Rattle.bounds.proofs.array_hulls.Lts as lts
-use Rattle.bounds.proofs.elements.Reads as elements-reads
-use Rattle.layout.proofs.array_records.Reads as array-records-reads
 
 abbrev Inv-loop : tie.InvT-loop
 Inv-loop s at lows₀ highs₀ places count a₀ lows highs a = Filled mostArrays (λ k. elementsInterval (declarations s) (arrayAt (declarations s) k .elements) .low) lows a × Filled mostArrays (λ k. elementsInterval (declarations s) (arrayAt (declarations s) k .elements) .high) highs a × (a ≤ count)
@@ -32,63 +28,48 @@ counted c = let e = c .before .before .before .before in let l = laid (e .args .
 few : (c : tie.In-loop Inv-loop μ-loop) → c .before .loop .a < mostArrays
 few c = omega (arith, counted c, c .before .before .before .before .pre .0 .few-arrays)
 
--- src/lib.rt:129:18
 array-records-requires : tie.Need-array-records-requires Inv-loop μ-loop
 array-records-requires c κs = (c .before .pre .0, c .before .pre .1 .0)
 
--- src/lib.rt:132:5
 loop-holds : tie.Need-loop-holds Inv-loop μ-loop
 loop-holds c = (filled-none _ _ (c .before .before .pre .1 .1 .0), filled-none _ _ (c .before .before .pre .1 .1 .1), omega arith)
 
--- src/lib.rt:133:35
 mul-elements : tie.Need-mul-elements Inv-loop μ-loop
 mul-elements c = omega (arith, few c)
 
--- src/lib.rt:133:35
 array-read-elements : tie.Need-array-read-elements Inv-loop μ-loop
 array-read-elements c = omega (arith, few c)
 
--- src/lib.rt:133:13
 elements-requires : tie.Need-elements-requires Inv-loop μ-loop
 elements-requires c κs = let e = c .before .before .before .before in (e .pre .0, (e .pre .1 .0, behind-inside (e .args .s .now) (e .pre .0) (c .before .loop .a) (counted c) (c .before .before .array-records .ensures .held (c .before .loop .a))))
 
--- src/lib.rt:136:9
 mul-low : tie.Need-mul-low Inv-loop μ-loop
 mul-low c = omega (arith, few (c .before .before .before))
 
--- src/lib.rt:136:9
 slice-set-from-low : tie.Need-slice-set-from-low Inv-loop μ-loop
 slice-set-from-low c = omega (arith, few (c .before .before .before), c .before .before .before .before .loop .inv .0 .sized)
 
--- src/lib.rt:137:9
 mul-high : tie.Need-mul-high Inv-loop μ-loop
 mul-high c = omega (arith, few (c .before .before .before))
 
--- src/lib.rt:137:9
 slice-set-from-high : tie.Need-slice-set-from-high Inv-loop μ-loop
 slice-set-from-high c = omega (arith, few (c .before .before .before), c .before .before .before .before .loop .inv .1 .sized)
 
--- src/lib.rt:138:9
 add-a : tie.Need-add-a Inv-loop μ-loop
 add-a c = omega (arith, few (c .before .before .before))
 
--- src/lib.rt:132:5
 loop-less : tie.Need-loop-less Inv-loop μ-loop
 loop-less c = omega arith
 
--- src/lib.rt:132:5
 loop-again : tie.Need-loop-again Inv-loop μ-loop
 loop-again c = let d = c .before .before .before in let e = c .before .before .elements .ensures ∙ array-elements (c .before .before .before .before .before .before .before .args .s .now) (c .before .before .before .before .loop .a) (counted d) (c .before .before .before .before .before .array-records .ensures .held (c .before .before .before .before .loop .a)) in (filled-more _ _ (c .before .before .before .before .loop .inv .0) (omega (arith, few d)) (toZ-ofZ (record { sfits = c .before .struct-told .given .0 .1 }) ∙ ap (λ (i : Interval). i .low) e), filled-more _ _ (c .before .before .before .before .loop .inv .1) (omega (arith, few d)) (toZ-ofZ (record { sfits = c .struct-told2 .given .1 .0 .1 }) ∙ ap (λ (i : Interval). i .high) e), omega arith)
 
--- src/lib.rt:122:1
 same-length : tie.Need-same-length Inv-loop μ-loop
 same-length c = c .before .loop .inv .0 .sized ∙ sym (ap length (c .before .before .before .before .pre .1 .1 .0))
 
--- src/lib.rt:122:1
 same-length-2 : tie.Need-same-length-2 Inv-loop μ-loop
 same-length-2 c = c .before .loop .inv .1 .sized ∙ sym (ap length (c .before .before .before .before .pre .1 .1 .1))
 
--- src/lib.rt:122:1
 returns : tie.Need-returns Inv-loop μ-loop
 returns c = let l = laid (c .before .before .before .before .args .s .now) (c .before .before .before .before .pre .0) (c .before .before .before .before .pre .1 .0) in hulls-of (c .before .before .before .before .args .s .now) (c .before .loop .inv .0) (c .before .loop .inv .1) (omega (arith, l .tally))
 

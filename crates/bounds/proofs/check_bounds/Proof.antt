@@ -1,3 +1,5 @@
+-- `bounds::check_bounds` meets its contract.
+-- Assumes nothing.
 use Rattle.layout.proofs.Order.{laid}
 use Rattle.answers.specs.Check.{refuse}
 use Rattle.answers.specs.Sections.{nodeCount}
@@ -8,18 +10,11 @@ use mir.Facts.{toZ-ofZ}
 use borrow.Author.Tests.{not-true, not-false}
 use native.Mathlib.Omega.{arith}
 use mathlib.Core.Bool.{_&&_}
-use Prim.Native.Nat.{ℕ, _+_, _-_, _≤_, _<_}
-use mathlib.Core.Path.{_≡_, refl, sym, ap, _∙_}
+use Prim.Native.Nat.{_+_, _-_, _≤_}
+use mathlib.Core.Path.{refl, sym, ap, _∙_}
 use Rattle.bounds.proofs.Nodes.{Passing, passing-none, passing-more, beyond-at, passing-all, kept-of}
-use Prim.Native.Nat.{_-_, _≤_}
-use borrow.Author.Needs.{needs}
 use Rattle.bounds.proofs.check_bounds.Statement.{statement}
 use Rattle.bounds.proofs.check_bounds.Tie as tie
-use Rattle.bounds.proofs.check_bounds.Reads as reads
-use Rattle.bounds.proofs.check_bounds.Lts as lts
-use Rattle.bounds.proofs.array_hulls.Reads as array-hulls-reads
-use Rattle.bounds.proofs.ends.within_limit.Reads as within-limit-reads
-use Rattle.bounds.proofs.node_ends.Reads as node-ends-reads
 
 abbrev Inv-loop : tie.InvT-loop
 Inv-loop s at hull-lows hull-highs lows₀ highs₀ nodes count n₀ lows highs n = Passing s lows highs n × (n ≤ count)
@@ -27,91 +22,70 @@ Inv-loop s at hull-lows hull-highs lows₀ highs₀ nodes count n₀ lows highs 
 abbrev μ-loop : tie.MeasureT-loop
 μ-loop s at hull-lows hull-highs lows₀ highs₀ nodes count n₀ lows highs n = count - n
 
--- src/lib.rt:191:24
 slice-aggregate-array-hulls : tie.Need-slice-aggregate-array-hulls Inv-loop μ-loop
 slice-aggregate-array-hulls c = refl
 
--- src/lib.rt:191:40
 slice-aggregate-array-hulls-2 : tie.Need-slice-aggregate-array-hulls-2 Inv-loop μ-loop
 slice-aggregate-array-hulls-2 c = refl
 
--- src/lib.rt:191:5
 array-hulls-requires : tie.Need-array-hulls-requires Inv-loop μ-loop
 array-hulls-requires c κs = (c .before .before .before .pre .0, (c .before .before .before .pre .1, (refl, refl)))
 
--- src/lib.rt:195:17
 sub-count : tie.Need-sub-count Inv-loop μ-loop
 sub-count c = let l = laid (c .before .before .before .before .before .before .before .args .s .now) (c .before .before .before .before .before .before .before .pre .0) (c .before .before .before .before .before .before .before .pre .1) in omega (arith, l, l .order)
 
--- src/lib.rt:197:5
 loop-holds : tie.Need-loop-holds Inv-loop μ-loop
 loop-holds c = (passing-none (c .before .before .before .before .before .before .before .args .s .now) refl refl, omega arith)
 
--- src/lib.rt:198:37
 slice-aggregate-node-ends : tie.Need-slice-aggregate-node-ends Inv-loop μ-loop
 slice-aggregate-node-ends c = sym (c .before .before .loop .inv .0 .low .sized)
 
--- src/lib.rt:198:44
 slice-aggregate-node-ends-2 : tie.Need-slice-aggregate-node-ends-2 Inv-loop μ-loop
 slice-aggregate-node-ends-2 c = sym (c .before .before .before .loop .inv .0 .high .sized)
 
--- src/lib.rt:198:52
 slice-aggregate-node-ends-3 : tie.Need-slice-aggregate-node-ends-3 Inv-loop μ-loop
 slice-aggregate-node-ends-3 c = sym (c .before .before .before .before .before .before .before .before .array-hulls .kept .1 .1 .0)
 
--- src/lib.rt:198:64
 slice-aggregate-node-ends-4 : tie.Need-slice-aggregate-node-ends-4 Inv-loop μ-loop
 slice-aggregate-node-ends-4 c = sym (c .before .before .before .before .before .before .before .before .before .array-hulls .kept .1 .1 .1 .0)
 
--- src/lib.rt:198:13
 node-ends-requires : tie.Need-node-ends-requires Inv-loop μ-loop
 unfolding nodeCount
 node-ends-requires c κs = let l = laid (c .before .before .before .before .before .before .before .before .before .before .before .before .before .args .s .now) (c .before .before .before .before .before .before .before .before .before .before .before .before .before .pre .0) (c .before .before .before .before .before .before .before .before .before .before .before .before .before .pre .1) in (c .before .before .before .before .before .before .before .before .before .before .before .before .before .pre .0, (c .before .before .before .before .before .before .before .before .before .before .before .before .before .pre .1, (omega (arith, l), (kept-of (c .before .before .before .before .before .before .before .before .before .before .before .before .before .args .s .now) (c .before .before .before .before .before .loop .inv .0 .low) (c .before .before .before .before .before .loop .inv .0 .high) (c .before .before .before .before .before .loop .inv .0 .inside), c .before .before .before .before .before .before .before .before .before .array-hulls .ensures))))
 
--- src/lib.rt:199:13
 within-limit-requires : tie.Need-within-limit-requires Inv-loop μ-loop
 within-limit-requires c κs = tt
 
--- src/lib.rt:200:35
 add-t28 : tie.Need-add-t28 Inv-loop μ-loop
 unfolding recordCount
 add-t28 c = let l = laid (c .before .before .before .before .before .before .before .before .before .before .before .before .before .before .before .before .args .s .now) (c .before .before .before .before .before .before .before .before .before .before .before .before .before .before .before .before .pre .0) (c .before .before .before .before .before .before .before .before .before .before .before .before .before .before .before .before .pre .1) in omega (arith, l, l .order)
 
--- src/lib.rt:200:13
 returns : tie.Need-returns Inv-loop μ-loop
 unfolding nodeCount
 returns c = let l = laid (c .before .before .before .before .before .before .before .before .before .before .before .before .before .before .before .before .args .s .now) (c .before .before .before .before .before .before .before .before .before .before .before .before .before .before .before .before .pre .0) (c .before .before .before .before .before .before .before .before .before .before .before .before .before .before .before .before .pre .1) in ap (λ k. refuse 8 (k + c .before .before .before .before .before .before .before .before .loop .n)) (l .nodes) ∙ beyond-at (c .before .before .before .before .before .before .before .before .before .before .before .before .before .before .before .before .args .s .now) (c .before .before .before .before .before .before .before .before .loop .inv .0) (omega (arith, l)) (sym (ap (λ (i : Interval). withinLimit (i .low) && withinLimit (i .high)) (c .before .before .node-ends .ensures)) ∙ sym (c .before .within-limit .ensures) ∙ not-true _ (c .if1 .taken))
 
--- src/lib.rt:204:9
 mul-lows : tie.Need-mul-lows Inv-loop μ-loop
 mul-lows c = let l = laid (c .before .before .before .before .before .before .before .before .before .before .before .before .before .before .before .before .before .before .args .s .now) (c .before .before .before .before .before .before .before .before .before .before .before .before .before .before .before .before .before .before .pre .0) (c .before .before .before .before .before .before .before .before .before .before .before .before .before .before .before .before .before .before .pre .1) in omega (arith, l, l .order)
 
--- src/lib.rt:204:9
 array-set-from-lows : tie.Need-array-set-from-lows Inv-loop μ-loop
 array-set-from-lows c = let l = laid (c .before .before .before .before .before .before .before .before .before .before .before .before .before .before .before .before .before .before .args .s .now) (c .before .before .before .before .before .before .before .before .before .before .before .before .before .before .before .before .before .before .pre .0) (c .before .before .before .before .before .before .before .before .before .before .before .before .before .before .before .before .before .before .pre .1) in omega (arith, l, l .order)
 
--- src/lib.rt:205:9
 mul-highs : tie.Need-mul-highs Inv-loop μ-loop
 mul-highs c = let l = laid (c .before .before .before .before .before .before .before .before .before .before .before .before .before .before .before .before .before .before .args .s .now) (c .before .before .before .before .before .before .before .before .before .before .before .before .before .before .before .before .before .before .pre .0) (c .before .before .before .before .before .before .before .before .before .before .before .before .before .before .before .before .before .before .pre .1) in omega (arith, l, l .order)
 
--- src/lib.rt:205:9
 array-set-from-highs : tie.Need-array-set-from-highs Inv-loop μ-loop
 array-set-from-highs c = let l = laid (c .before .before .before .before .before .before .before .before .before .before .before .before .before .before .before .before .before .before .args .s .now) (c .before .before .before .before .before .before .before .before .before .before .before .before .before .before .before .before .before .before .pre .0) (c .before .before .before .before .before .before .before .before .before .before .before .before .before .before .before .before .before .before .pre .1) in omega (arith, l, l .order)
 
--- src/lib.rt:206:9
 add-n : tie.Need-add-n Inv-loop μ-loop
 add-n c = let l = laid (c .before .before .before .before .before .before .before .before .before .before .before .before .before .before .before .before .before .before .args .s .now) (c .before .before .before .before .before .before .before .before .before .before .before .before .before .before .before .before .before .before .pre .0) (c .before .before .before .before .before .before .before .before .before .before .before .before .before .before .before .before .before .before .pre .1) in omega (arith, l, l .order)
 
--- src/lib.rt:197:5
 loop-less : tie.Need-loop-less Inv-loop μ-loop
 loop-less c = omega arith
 
--- src/lib.rt:197:5
 loop-again : tie.Need-loop-again Inv-loop μ-loop
 unfolding nodeCount
 loop-again c = let l = laid (c .before .before .before .before .before .before .before .before .before .before .before .before .before .before .before .before .before .before .args .s .now) (c .before .before .before .before .before .before .before .before .before .before .before .before .before .before .before .before .before .before .pre .0) (c .before .before .before .before .before .before .before .before .before .before .before .before .before .before .before .before .before .before .pre .1) in (passing-more (c .before .before .before .before .before .before .before .before .before .before .before .before .before .before .before .before .before .before .args .s .now) (c .before .before .before .before .before .before .before .before .before .before .loop .inv .0) (omega (arith, l)) (omega (arith, l, l .order)) (toZ-ofZ (record { sfits = c .before .struct-told .given .0 .1 }) ∙ ap (λ (i : Interval). i .low) (c .before .before .before .before .node-ends .ensures)) (toZ-ofZ (record { sfits = c .struct-told2 .given .1 .0 .1 }) ∙ ap (λ (i : Interval). i .high) (c .before .before .before .before .node-ends .ensures)) (sym (ap (λ (i : Interval). withinLimit (i .low) && withinLimit (i .high)) (c .before .before .before .before .node-ends .ensures)) ∙ sym (c .before .before .before .within-limit .ensures) ∙ not-false _ (c .before .before .if1 .left)), omega arith)
 
--- src/lib.rt:184:1
 returns-2 : tie.Need-returns-2 Inv-loop μ-loop
 unfolding nodeCount
 returns-2 c = let l = laid (c .before .before .before .before .before .before .before .before .before .args .s .now) (c .before .before .before .before .before .before .before .before .before .pre .0) (c .before .before .before .before .before .before .before .before .before .pre .1) in passing-all (c .before .before .before .before .before .before .before .before .before .args .s .now) (c .before .loop .inv .0) (omega (arith, l, c .before .loop .inv .1))

@@ -1,46 +1,36 @@
+-- `bounds::domain` meets its contract.
+-- Assumes nothing.
 use Rattle.bounds.proofs.Declared.{domain-of, no-domain}
 use Rattle.bounds.proofs.Spans.{to-cong}
 use Rattle.layout.proofs.Order.{laid}
 use Rattle.layout.proofs.Runs.{within-table}
 use Rattle.answers.specs.Sections.{variableCount, variablesAt}
-use Rattle.table.specs.Records.{xAt, yAt}
 use mir.Facts.{toZ-ofZ}
 use native.Mathlib.Omega.{arith}
 use mathlib.Core.Path.{_∙_}
 use borrow.Author.Needs.{needs}
 use Rattle.bounds.proofs.domain.Statement.{statement}
 use Rattle.bounds.proofs.domain.Tie as tie
-use Rattle.bounds.proofs.domain.Reads as reads
-use Rattle.bounds.proofs.domain.Lts as lts
-use Rattle.layout.proofs.fields.x_at.Reads as x-at-reads
-use Rattle.layout.proofs.fields.y_at.Reads as y-at-reads
 
--- src/lib.rt:35:15
 sub-end : tie.Need-sub-end
 sub-end c = let l = laid _ (c .before .before .pre .0) (c .before .before .pre .1) in omega (arith, l .slots, l .order .variables)
 
--- src/lib.rt:38:26
 add-x-at : tie.Need-add-x-at
 add-x-at c = search needs
 
--- src/lib.rt:38:18
 x-at-requires : tie.Need-x-at-requires
 x-at-requires c κs = let l = laid (c .before .before .before .args .s .now) (c .before .before .before .pre .0) (c .before .before .before .pre .1) in within-table (c .before .before .before .args .s .now) (omega (arith, l, l .order))
 
--- src/lib.rt:39:27
 add-y-at : tie.Need-add-y-at
 add-y-at c = search needs
 
--- src/lib.rt:39:19
 y-at-requires : tie.Need-y-at-requires
 y-at-requires c κs = let l = laid (c .before .before .before .before .args .s .now) (c .before .before .before .before .pre .0) (c .before .before .before .before .pre .1) in within-table (c .before .before .before .before .args .s .now) (omega (arith, l, l .order))
 
--- src/lib.rt:30:1
 returns : tie.Need-returns
 unfolding variableCount variablesAt
 returns c = let l = laid _ (c .before .before .before .before .before .pre .0) (c .before .before .before .before .before .pre .1) in to-cong (toZ-ofZ (record { sfits = c .before .x-at .ok }) ∙ c .before .x-at .ensures) (toZ-ofZ (record { sfits = c .y-at .ok }) ∙ c .y-at .ensures) ∙ domain-of _ (c .before .before .before .before .before .args .v) (omega (arith, l, l .order)) (omega arith)
 
--- src/lib.rt:30:1
 returns-2 : tie.Need-returns-2
 unfolding variableCount variablesAt
 returns-2 c = let l = laid _ (c .before .before .before .pre .0) (c .before .before .before .pre .1) in no-domain _ (c .before .before .before .args .v) (omega (arith, l, l .order))

@@ -1,46 +1,33 @@
+-- `bounds::element` meets its contract.
+-- Assumes nothing.
 use Rattle.bounds.proofs.Declared.{constant-element, variable-element}
 use Rattle.layout.proofs.Runs.{within-table}
 use Rattle.answers.specs.Sections.{declarations}
 use Rattle.rules.specs.Bounds.{only, variableInterval}
 use mir.Facts.{toZ-ofZ}
-use native.Mathlib.Omega.{arith}
 use mathlib.Core.Path.{_∙_, sym, ap}
 use borrow.Author.Needs.{needs}
 use Rattle.bounds.proofs.element.Statement.{statement}
 use Rattle.bounds.proofs.element.Tie as tie
-use Rattle.bounds.proofs.element.Reads as reads
-use Rattle.bounds.proofs.element.Lts as lts
-use Rattle.bounds.proofs.domain.Reads as domain-reads
-use Rattle.bounds.proofs.ends.only.Reads as only-reads
-use Rattle.layout.proofs.fields.kind_at.Reads as kind-at-reads
-use Rattle.layout.proofs.fields.name_x.Reads as name-x-reads
-use Rattle.layout.proofs.fields.x_at.Reads as x-at-reads
 
--- src/lib.rt:72:8
 kind-at-requires : tie.Need-kind-at-requires
 kind-at-requires c κs = within-table _ (c .before .pre .1 .1)
 
--- src/lib.rt:73:14
 x-at-requires : tie.Need-x-at-requires
 x-at-requires c κs = within-table _ (c .before .before .before .pre .1 .1)
 
--- src/lib.rt:73:9
 only-requires : tie.Need-only-requires
 only-requires c κs = search needs
 
--- src/lib.rt:75:23
 name-x-requires : tie.Need-name-x-requires
 name-x-requires c κs = within-table _ (c .before .before .before .pre .1 .1)
 
--- src/lib.rt:75:9
 domain-requires : tie.Need-domain-requires
 domain-requires c κs = search needs
 
--- src/lib.rt:66:1
 returns : tie.Need-returns
 returns c = c .only .ensures ∙ ap only (toZ-ofZ (record { sfits = c .before .x-at .ok }) ∙ c .before .x-at .ensures) ∙ constant-element _ _ _ (sym (c .before .before .before .kind-at .ensures) ∙ c .before .before .if1 .taken)
 
--- src/lib.rt:66:1
 returns-2 : tie.Need-returns-2
 returns-2 c = c .domain .ensures ∙ ap (variableInterval (declarations (c .before .before .before .before .before .args .s .now))) (c .before .name-x .ensures) ∙ variable-element _ _ _ (λ e. c .before .before .if1 .left (c .before .before .before .kind-at .ensures ∙ e))
 

@@ -1,3 +1,5 @@
+-- `bounds::kept` meets its contract.
+-- Assumes nothing.
 use lib.ListN.{List·getD-eq-default}
 use lib.IntN.{pos}
 use native.Mathlib.Omega.{arith}
@@ -5,22 +7,16 @@ use mathlib.Core.Path.{sym}
 use borrow.Author.Needs.{needs}
 use Rattle.bounds.proofs.kept.Statement.{statement}
 use Rattle.bounds.proofs.kept.Tie as tie
-use Rattle.bounds.proofs.kept.Reads as reads
-use Rattle.bounds.proofs.kept.Lts as lts
 
--- src/lib.rt:104:9
 mul-result : tie.Need-mul-result
 mul-result c = search needs
 
--- src/lib.rt:104:9
 shared-slice-copy-out-result : tie.Need-shared-slice-copy-out-result
 shared-slice-copy-out-result c = search needs
 
--- src/lib.rt:100:1
 returns : tie.Need-returns
 returns c = search needs
 
--- src/lib.rt:100:1
 returns-2 : tie.Need-returns-2
 returns-2 c = sym (List·getD-eq-default (c .before .args .ends .now) (pos 0) {n = c .before .args .k} (omega arith))
 

@@ -1,3 +1,5 @@
+-- `bounds::node_ends` meets its contract.
+-- Assumes nothing.
 use mathlib.Core.List.{List}
 use lib.ListN.{getD}
 use lib.IntN.{pos, natAbs}
@@ -16,31 +18,10 @@ use Rattle.language.specs.Tables.{treeI}
 use Rattle.language.specs.Syntax.{plus, minus, times, least, most, quot, rem, Slot}
 use mir.Facts.{toZ-ofZ}
 use native.Mathlib.Omega.{arith}
-use Prim.Native.Nat.{ℕ, _+_, _<_}
+use Prim.Native.Nat.{ℕ, _+_}
 use mathlib.Core.Path.{_≡_, sym, ap, _∙_}
-use borrow.Author.Needs.{needs}
 use Rattle.bounds.proofs.node_ends.Statement.{statement}
 use Rattle.bounds.proofs.node_ends.Tie as tie
-use Rattle.bounds.proofs.node_ends.Reads as reads
-use Rattle.bounds.proofs.node_ends.Lts as lts
-use Rattle.bounds.proofs.domain.Reads as domain-reads
-use Rattle.bounds.proofs.ends.greater.Reads as greater-reads
-use Rattle.bounds.proofs.ends.lesser.Reads as lesser-reads
-use Rattle.bounds.proofs.ends.minus.Reads as minus-reads
-use Rattle.bounds.proofs.ends.negated.Reads as negated-reads
-use Rattle.bounds.proofs.ends.only.Reads as only-reads
-use Rattle.bounds.proofs.ends.plus.Reads as plus-reads
-use Rattle.bounds.proofs.ends.quotients.Reads as quotients-reads
-use Rattle.bounds.proofs.ends.remainders.Reads as remainders-reads
-use Rattle.bounds.proofs.ends.slot_values.Reads as slot-values-reads
-use Rattle.bounds.proofs.ends.summed.Reads as summed-reads
-use Rattle.bounds.proofs.ends.times.Reads as times-reads
-use Rattle.bounds.proofs.operand.Reads as operand-reads
-use Rattle.bounds.proofs.slot_ends.Reads as slot-ends-reads
-use Rattle.layout.proofs.fields.kind_at.Reads as kind-at-reads
-use Rattle.layout.proofs.fields.name_x.Reads as name-x-reads
-use Rattle.layout.proofs.fields.name_y.Reads as name-y-reads
-use Rattle.layout.proofs.fields.x_at.Reads as x-at-reads
 
 -- ---- what is known where the kind has been read
 
@@ -84,156 +65,119 @@ module _ (d : tie.After-kind-at) where
 both-cong : {A B C : Type 0} (f : A → B → C) {a b : A} {c d : B} → a ≡ b → c ≡ d → f a c ≡ f b d
 both-cong f p q = cc
 
--- src/lib.rt:157:13
 add-p : tie.Need-add-p
 unfolding nodeCount recordCount
 add-p c = let l = laid (c .before .before .args .s .now) (c .before .before .pre .0) (c .before .before .pre .1 .0) in omega (arith, l, l .order, c .before .before .pre .1 .1 .0)
 
--- src/lib.rt:158:9
 name-x-requires : tie.Need-name-x-requires
 unfolding nodeCount
 name-x-requires c κs = let l = laid (c .before .before .args .s .now) (c .before .before .pre .0) (c .before .before .pre .1 .0) in within-table (c .before .before .args .s .now) (omega (arith, l, l .order, c .before .before .pre .1 .1 .0))
 
--- src/lib.rt:159:9
 name-y-requires : tie.Need-name-y-requires
 unfolding nodeCount
 name-y-requires c κs = let l = laid (c .before .before .before .args .s .now) (c .before .before .before .pre .0) (c .before .before .before .pre .1 .0) in within-table (c .before .before .before .args .s .now) (omega (arith, l, l .order, c .before .before .before .pre .1 .1 .0))
 
--- src/lib.rt:160:9
 operand-requires : tie.Need-operand-requires
 operand-requires c κs = tt
 
--- src/lib.rt:161:9
 operand-requires-2 : tie.Need-operand-requires-2
 operand-requires-2 c κs = tt
 
--- src/lib.rt:162:11
 kind-at-requires : tie.Need-kind-at-requires
 unfolding nodeCount
 kind-at-requires c κs = let l = laid (c .before .before .before .before .before .before .args .s .now) (c .before .before .before .before .before .before .pre .0) (c .before .before .before .before .before .before .pre .1 .0) in within-table (c .before .before .before .before .before .before .args .s .now) (omega (arith, l, l .order, c .before .before .before .before .before .before .pre .1 .1 .0))
 
--- src/lib.rt:163:19
 x-at-requires : tie.Need-x-at-requires
 unfolding nodeCount
 x-at-requires c κs = let l = laid (c .before .before .before .before .before .before .before .before .args .s .now) (c .before .before .before .before .before .before .before .before .pre .0) (c .before .before .before .before .before .before .before .before .pre .1 .0) in within-table (c .before .before .before .before .before .before .before .before .args .s .now) (omega (arith, l, l .order, c .before .before .before .before .before .before .before .before .pre .1 .1 .0))
 
--- src/lib.rt:163:14
 only-requires : tie.Need-only-requires
 only-requires c κs = tt
 
--- src/lib.rt:164:14
 domain-requires : tie.Need-domain-requires
 domain-requires c κs = (c .before .before .before .before .before .before .before .before .pre .0, c .before .before .before .before .before .before .before .before .pre .1 .0)
 
--- src/lib.rt:165:26
 slot-ends-requires : tie.Need-slot-ends-requires
 slot-ends-requires c κs = (c .before .before .before .before .before .before .before .before .pre .0, c .before .before .before .before .before .before .before .before .pre .1 .0)
 
--- src/lib.rt:165:14
 slot-values-requires : tie.Need-slot-values-requires
 slot-values-requires c κs = tt
 
--- src/lib.rt:166:14
 plus-requires : tie.Need-plus-requires
 plus-requires c κs = (small-a (c .before), small-b (c .before))
 
--- src/lib.rt:167:14
 minus-requires : tie.Need-minus-requires
 minus-requires c κs = (small-a (c .before), small-b (c .before))
 
--- src/lib.rt:168:14
 times-requires : tie.Need-times-requires
 times-requires c κs = (small-a (c .before), small-b (c .before))
 
--- src/lib.rt:169:14
 quotients-requires : tie.Need-quotients-requires
 quotients-requires c κs = small-a (c .before)
 
--- src/lib.rt:170:15
 remainders-requires : tie.Need-remainders-requires
 remainders-requires c κs = small-b (c .before)
 
--- src/lib.rt:171:15
 negated-requires : tie.Need-negated-requires
 negated-requires c κs = small-a (c .before)
 
--- src/lib.rt:172:15
 lesser-requires : tie.Need-lesser-requires
 lesser-requires c κs = tt
 
--- src/lib.rt:173:15
 greater-requires : tie.Need-greater-requires
 greater-requires c κs = tt
 
--- src/lib.rt:175:15
 operand-requires-3 : tie.Need-operand-requires-3
 operand-requires-3 c κs = tt
 
--- src/lib.rt:176:22
 slot-ends-requires-2 : tie.Need-slot-ends-requires-2
 slot-ends-requires-2 c κs = (c .before .before .before .before .before .before .before .before .pre .0, c .before .before .before .before .before .before .before .before .pre .1 .0)
 
--- src/lib.rt:176:15
 summed-requires : tie.Need-summed-requires
 summed-requires c κs = (c .slot-ends2 .ensures .1, small-b (c .before .before))
 
--- src/lib.rt:141:1
 returns : tie.Need-returns
 returns c = let d = (c .before .before .before) in c .only .ensures ∙ ap only (toZ-ofZ (record { sfits = c .before .x-at .ok }) ∙ c .before .x-at .ensures) ∙ Nodes.constant-ends (bytes d) (number d) (place d) (kind-is d (c .before .before .match .keys1))
 
--- src/lib.rt:141:1
 returns-2 : tie.Need-returns-2
 returns-2 c = let d = (c .before .before) in c .domain .ensures ∙ ap (variableInterval (declarations (bytes d))) (x-is d) ∙ Nodes.variable-ends (bytes d) (number d) (place d) (kind-is d (c .before .match .keys2))
 
--- src/lib.rt:141:1
 returns-3 : tie.Need-returns-3
 returns-3 c = let d = (c .before .before .before) in c .slot-values .ensures ∙ ap slotInterval (c .before .slot-ends .ensures .0 ∙ ap (slotAt (declarations (bytes d))) (x-is d)) ∙ Nodes.slot-ends (bytes d) (number d) (place d) (kind-is d (c .before .before .match .keys3))
 
--- src/lib.rt:141:1
 returns-4 : tie.Need-returns-4
 returns-4 c = let d = (c .before .before) in c .plus .ensures ∙ both-cong (arithInterval plus) (a-is d) (b-is d) ∙ Nodes.plus-ends (bytes d) (number d) (place d) (kind-is d (c .before .match .keys4))
 
--- src/lib.rt:141:1
 returns-5 : tie.Need-returns-5
 returns-5 c = let d = (c .before .before) in c .minus .ensures ∙ both-cong (arithInterval minus) (a-is d) (b-is d) ∙ Nodes.minus-ends (bytes d) (number d) (place d) (kind-is d (c .before .match .keys5))
 
--- src/lib.rt:141:1
 returns-6 : tie.Need-returns-6
 returns-6 c = let d = (c .before .before) in c .times .ensures ∙ both-cong (arithInterval times) (a-is d) (b-is d) ∙ Nodes.times-ends (bytes d) (number d) (place d) (kind-is d (c .before .match .keys6))
 
--- src/lib.rt:141:1
 returns-7 : tie.Need-returns-7
 returns-7 c = let d = (c .before .before) in c .quotients .ensures ∙ both-cong (divideInterval quot) (a-is d) (b-is d) ∙ Nodes.quotient-ends (bytes d) (number d) (place d) (kind-is d (c .before .match .keys7))
 
--- src/lib.rt:141:1
 returns-8 : tie.Need-returns-8
 returns-8 c = let d = (c .before .before) in c .remainders .ensures ∙ both-cong (divideInterval rem) (a-is d) (b-is d) ∙ Nodes.remainder-ends (bytes d) (number d) (place d) (kind-is d (c .before .match .keys8))
 
--- src/lib.rt:141:1
 returns-9 : tie.Need-returns-9
 returns-9 c = let d = (c .before .before) in c .negated .ensures ∙ ap opposite (a-is d) ∙ Nodes.negate-ends (bytes d) (number d) (place d) (kind-is d (c .before .match .keys9))
 
--- src/lib.rt:141:1
 returns-10 : tie.Need-returns-10
 returns-10 c = let d = (c .before .before) in c .lesser .ensures ∙ both-cong (arithInterval least) (a-is d) (b-is d) ∙ Nodes.least-ends (bytes d) (number d) (place d) (kind-is d (c .before .match .keys10))
 
--- src/lib.rt:141:1
 returns-11 : tie.Need-returns-11
 returns-11 c = let d = (c .before .before) in c .greater .ensures ∙ both-cong (arithInterval most) (a-is d) (b-is d) ∙ Nodes.most-ends (bytes d) (number d) (place d) (kind-is d (c .before .match .keys11))
 
--- src/lib.rt:141:1
 returns-12 : tie.Need-returns-12
 returns-12 c = let d = c .before in Nodes.boolToInt-ends (bytes d) (number d) (place d) (kind-is d (c .match .keys12))
 
--- src/lib.rt:141:1
 returns-13 : tie.Need-returns-13
 returns-13 c = let d = (c .before .before) in c .operand3 .ensures ∙ to-cong (hull-low d) (hull-high d) ∙ Nodes.lookup-ends (bytes d) (number d) (place d) (kind-is d (c .before .match .keys13))
 
--- src/lib.rt:141:1
 returns-14 : tie.Need-returns-14
 returns-14 c = let d = (c .before .before .before) in c .summed .ensures ∙ both-cong (λ (s : Slot) (i : Interval). repeated (count s) i) (c .before .slot-ends2 .ensures .0 ∙ ap (slotAt (declarations (bytes d))) (x-is d)) (b-is d) ∙ Nodes.sum-ends (bytes d) (number d) (place d) (kind-is d (c .before .before .match .keys14))
 
--- src/lib.rt:141:1
 returns-15 : tie.Need-returns-15
 returns-15 c = let d = c .before in Nodes.other-ends (bytes d) (number d) (place d) _ (c .match .rest) (sym (d .kind-at .ensures))
 

@@ -1,22 +1,18 @@
+-- `bounds::operand` meets its contract.
+-- Assumes nothing.
 use Rattle.bounds.proofs.Spans.{to-cong}
 use mir.Facts.{toZ-ofZ}
 use mathlib.Core.Path.{_∙_}
 use borrow.Author.Needs.{needs}
 use Rattle.bounds.proofs.operand.Statement.{statement}
 use Rattle.bounds.proofs.operand.Tie as tie
-use Rattle.bounds.proofs.operand.Reads as reads
-use Rattle.bounds.proofs.operand.Lts as lts
-use Rattle.bounds.proofs.kept.Reads as kept-reads
 
--- src/lib.rt:116:14
 kept-requires : tie.Need-kept-requires
 kept-requires c κs = search needs
 
--- src/lib.rt:117:15
 kept-requires-2 : tie.Need-kept-requires-2
 kept-requires-2 c κs = search needs
 
--- src/lib.rt:112:1
 returns : tie.Need-returns
 returns c = to-cong (toZ-ofZ (record { sfits = c .before .kept .ok }) ∙ c .before .kept .ensures) (toZ-ofZ (record { sfits = c .kept2 .ok }) ∙ c .kept2 .ensures)
 

@@ -1,3 +1,5 @@
+-- `bounds::slot_ends` meets its contract.
+-- Assumes nothing.
 use Rattle.bounds.proofs.Declared.{slot-of, no-slot}
 use Rattle.bounds.proofs.Spans.{slot-cong}
 use Rattle.layout.proofs.Words.{xAt-natAbs-≤, yAt-natAbs-≤}
@@ -10,37 +12,26 @@ use mathlib.Core.Path.{_∙_}
 use borrow.Author.Needs.{needs}
 use Rattle.bounds.proofs.slot_ends.Statement.{statement}
 use Rattle.bounds.proofs.slot_ends.Tie as tie
-use Rattle.bounds.proofs.slot_ends.Reads as reads
-use Rattle.bounds.proofs.slot_ends.Lts as lts
-use Rattle.layout.proofs.fields.x_at.Reads as x-at-reads
-use Rattle.layout.proofs.fields.y_at.Reads as y-at-reads
 
--- src/lib.rt:54:17
 sub-count : tie.Need-sub-count
 sub-count c = let l = laid (c .before .before .args .s .now) (c .before .before .pre .0) (c .before .before .pre .1) in omega (arith, l, l .order)
 
--- src/lib.rt:57:26
 add-x-at : tie.Need-add-x-at
 add-x-at c = search needs
 
--- src/lib.rt:57:18
 x-at-requires : tie.Need-x-at-requires
 x-at-requires c κs = let l = laid (c .before .before .before .args .s .now) (c .before .before .before .pre .0) (c .before .before .before .pre .1) in within-table (c .before .before .before .args .s .now) (omega (arith, l, l .order))
 
--- src/lib.rt:58:27
 add-y-at : tie.Need-add-y-at
 add-y-at c = search needs
 
--- src/lib.rt:58:19
 y-at-requires : tie.Need-y-at-requires
 y-at-requires c κs = let l = laid (c .before .before .before .before .args .s .now) (c .before .before .before .before .pre .0) (c .before .before .before .before .pre .1) in within-table (c .before .before .before .before .args .s .now) (omega (arith, l, l .order))
 
--- src/lib.rt:47:1
 returns : tie.Need-returns
 unfolding slotCount
 returns c = let l = laid (c .before .before .before .before .before .args .s .now) (c .before .before .before .before .before .pre .0) (c .before .before .before .before .before .pre .1) in let x = toZ-ofZ (record { sfits = c .before .x-at .ok }) ∙ c .before .x-at .ensures in let y = toZ-ofZ (record { sfits = c .y-at .ok }) ∙ c .y-at .ensures in (slot-cong x y ∙ slot-of (c .before .before .before .before .before .args .s .now) (c .before .before .before .before .before .args .n) (omega (arith, l, l .order)) (omega (arith, l)), record { low = rw x (xAt-natAbs-≤ (c .before .before .before .before .before .args .s .now) _); high = rw y (yAt-natAbs-≤ (c .before .before .before .before .before .args .s .now) _) })
 
--- src/lib.rt:47:1
 returns-2 : tie.Need-returns-2
 unfolding slotCount
 returns-2 c = let l = laid (c .before .before .before .args .s .now) (c .before .before .before .pre .0) (c .before .before .before .pre .1) in (no-slot (c .before .before .before .args .s .now) (c .before .before .before .args .n) (omega (arith, l, l .order)), record { low = omega arith; high = omega arith })

@@ -1,20 +1,17 @@
+-- `layout::array_records` meets its contract.
+-- Assumes nothing.
 use Rattle.layout.proofs.Runs.{behind-at, within-table}
 use Rattle.layout.proofs.Words.{yAt-natAbs-≤}
 use Rattle.layout.specs.declared.Layout.{Layout}
 use Rattle.answers.specs.Sections.{arrayRecords}
 use Rattle.table.specs.Records.{recordSize, recordCount}
 use lib.ListN.{length}
-use Prim.Native.Nat.{_+_, _<_}
-use mathlib.Core.Path.{_≡_, ap, sym, _∙_}
+use Prim.Native.Nat.{_+_, _<_, _-_}
+use mathlib.Core.Path.{ap, _∙_}
 use native.Mathlib.Omega.{arith}
 use Rattle.layout.proofs.Walked.{Placed, placed-none, next-within, placed-more, placed-all}
-use Prim.Native.Nat.{_-_}
-use borrow.Author.Needs.{needs}
 use Rattle.layout.proofs.array_records.Statement.{statement}
 use Rattle.layout.proofs.array_records.Tie as tie
-use Rattle.layout.proofs.array_records.Reads as reads
-use Rattle.layout.proofs.array_records.Lts as lts
-use Rattle.layout.proofs.fields.name_y.Reads as name-y-reads
 
 abbrev Inv-loop : tie.InvT-loop
 Inv-loop s places₀ count p₀ n₀ places p n = Placed s places n p
@@ -29,45 +26,35 @@ counted c = omega (arith, ap (λ (l : Layout). l .tally) (c .before .before .bef
 next-at : (c : tie.In-loop Inv-loop μ-loop) → c .before .loop .p < recordCount (c .before .before .before .args .s .now)
 next-at c = next-within _ (c .before .loop .inv) (c .before .before .before .pre .0 .whole) (counted c)
 
--- src/lib.rt:96:5
 loop-holds : tie.Need-loop-holds Inv-loop μ-loop
 loop-holds c = rw (ap (λ (l : Layout). l .arrays) (c .before .pre .1)) (placed-none _)
 
--- src/lib.rt:97:9
 mul-places : tie.Need-mul-places Inv-loop μ-loop
 mul-places c = omega (arith, counted c, c .before .before .before .pre .0 .few-arrays)
 
--- src/lib.rt:97:9
 array-write-places : tie.Need-array-write-places Inv-loop μ-loop
 array-write-places c = omega (arith, counted c, c .before .before .before .pre .0 .few-arrays)
 
--- src/lib.rt:98:13
 add-p : tie.Need-add-p Inv-loop μ-loop
 unfolding recordSize recordCount
 add-p c = omega (arith, next-at c, c .before .before .before .good)
 
--- src/lib.rt:98:21
 name-y-requires : tie.Need-name-y-requires Inv-loop μ-loop
 name-y-requires c κs = within-table _ (next-at c)
 
--- src/lib.rt:98:13
 add-p-2 : tie.Need-add-p-2 Inv-loop μ-loop
 unfolding recordSize recordCount
 add-p-2 c = omega (arith, c .name-y .ensures, yAt-natAbs-≤ (c .before .before .before .before .args .s .now) (c .before .before .loop .p), next-at (c .before), c .before .before .before .before .good)
 
--- src/lib.rt:99:9
 add-n : tie.Need-add-n Inv-loop μ-loop
 add-n c = omega arith
 
--- src/lib.rt:96:5
 loop-less : tie.Need-loop-less Inv-loop μ-loop
 loop-less c = omega arith
 
--- src/lib.rt:96:5
 loop-again : tie.Need-loop-again Inv-loop μ-loop
 loop-again c = placed-more _ (c .before .before .loop .inv) (c .before .before .before .before .pre .0 .whole) (counted (c .before)) (omega (arith, counted (c .before), c .before .before .before .before .pre .0 .few-arrays)) (ap (λ n. c .before .before .loop .p + 1 + n) (c .name-y .ensures) ∙ behind-at _ _)
 
--- src/lib.rt:87:1
 returns : tie.Need-returns Inv-loop μ-loop
 returns c = placed-all _ (c .before .loop .inv) (omega (arith, ap (λ (l : Layout). l .tally) (c .before .before .before .pre .1)))
 

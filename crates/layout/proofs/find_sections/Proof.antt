@@ -1,35 +1,27 @@
+-- `layout::find_sections` meets its contract.
+-- Assumes nothing.
 use Rattle.layout.proofs.Walked.{layout-found}
 use Rattle.table.specs.Records.{VR, SL, ND, CN, firstLetter, secondLetter}
 use mathlib.Core.Path.{refl}
 use borrow.Author.Needs.{needs}
 use Rattle.layout.proofs.find_sections.Statement.{statement}
 use Rattle.layout.proofs.find_sections.Tie as tie
-use Rattle.layout.proofs.find_sections.Reads as reads
-use Rattle.layout.proofs.find_sections.Lts as lts
-use Rattle.layout.proofs.arrays_from.Reads as arrays-from-reads
-use Rattle.layout.proofs.run_end.Reads as run-end-reads
 
--- src/lib.rt:70:9
 run-end-requires : tie.Need-run-end-requires
 run-end-requires c κs = search needs
 
--- src/lib.rt:71:9
 run-end-requires-2 : tie.Need-run-end-requires-2
 run-end-requires-2 c κs = search needs
 
--- src/lib.rt:72:9
 arrays-from-requires : tie.Need-arrays-from-requires
 arrays-from-requires c κs = search needs
 
--- src/lib.rt:74:9
 run-end-requires-3 : tie.Need-run-end-requires-3
 run-end-requires-3 c κs = search needs
 
--- src/lib.rt:75:9
 run-end-requires-4 : tie.Need-run-end-requires-4
 run-end-requires-4 c κs = search needs
 
--- src/lib.rt:66:1
 returns : tie.Need-returns
 unfolding firstLetter secondLetter
 returns c = layout-found _ (c .before .before .before .before .run-end .ensures VR refl refl) (c .before .before .before .run-end2 .ensures SL refl refl) (c .before .before .arrays-from .ensures) (c .before .run-end3 .ensures ND refl refl) (c .run-end4 .ensures CN refl refl)

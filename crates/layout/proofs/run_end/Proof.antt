@@ -1,19 +1,15 @@
+-- `layout::run_end` meets its contract.
+-- Assumes nothing.
 use native.Mathlib.Numerals.{add-one}
-use Rattle.table.specs.Records.{recordSize}
-use mathlib.Core.Path.{ap}
+use Rattle.table.specs.Records.{recordSize, Mark, firstLetter, secondLetter, recordCount}
 use borrow.Author.Tests.{not-true, not-false}
-use Rattle.layout.proofs.Runs.{lettered-marked, within-table, unmarked-past, run-stop, run-more}
+use Rattle.layout.proofs.Runs.{lettered-marked, unmarked-past, run-stop, run-more}
 use Rattle.answers.specs.Sections.{runEnd, endOf}
-use Rattle.table.specs.Records.{Mark, firstLetter, secondLetter, recordCount}
 use native.Mathlib.Omega.{arith}
-use mathlib.Core.Path.{_≡_, refl, sym, _∙_}
-use Prim.Native.Nat.{ℕ, suc, _+_, _≤_, _<_, _-_}
-use borrow.Author.Needs.{needs}
+use mathlib.Core.Path.{_≡_, sym, _∙_}
+use Prim.Native.Nat.{_≤_, _-_}
 use Rattle.layout.proofs.run_end.Statement.{statement}
 use Rattle.layout.proofs.run_end.Tie as tie
-use Rattle.layout.proofs.run_end.Reads as reads
-use Rattle.layout.proofs.run_end.Lts as lts
-use Rattle.layout.proofs.fields.marked.Reads as marked-reads
 
 abbrev Inv-loop : tie.InvT-loop
 Inv-loop s from first second records p₀ p = (from ≤ p) × ((m : Mark) → firstLetter m ≡ first → secondLetter m ≡ second → runEnd s m (recordCount s - (p - from)) p ≡ endOf s m from)
@@ -21,34 +17,27 @@ Inv-loop s from first second records p₀ p = (from ≤ p) × ((m : Mark) → fi
 abbrev μ-loop : tie.MeasureT-loop
 μ-loop s from first second records p₀ p = records - p
 
--- src/lib.rt:38:5
 loop-holds : tie.Need-loop-holds Inv-loop μ-loop
 unfolding endOf
 loop-holds c = (omega arith, λ m e f. let z : recordCount (c .before .args .s .now) - (c .before .args .from - c .before .args .from) ≡ recordCount (c .before .args .s .now) = omega arith in rw z)
 
--- src/lib.rt:39:13
 marked-requires : tie.Need-marked-requires Inv-loop μ-loop
 unfolding recordCount recordSize
 marked-requires c κs = omega arith
 
--- src/lib.rt:40:13
 returns : tie.Need-returns Inv-loop μ-loop
 returns c = λ m e f. sym (run-stop _ m _ _ (sym (lettered-marked _ m _ e f) ∙ sym (c .before .marked .ensures) ∙ not-true _ (c .if1 .taken))) ∙ c .before .before .before .loop .inv .1 m e f
 
--- src/lib.rt:42:9
 add-p : tie.Need-add-p Inv-loop μ-loop
 add-p c = omega arith
 
--- src/lib.rt:38:5
 loop-less : tie.Need-loop-less Inv-loop μ-loop
 loop-less c = omega arith
 
--- src/lib.rt:38:5
 loop-again : tie.Need-loop-again Inv-loop μ-loop
 unfolding recordCount recordSize
 loop-again c = (omega arith, λ m e f. rw add-one (sym (run-more _ m _ _ _ (omega arith) (sym (lettered-marked _ m _ e f) ∙ sym (c .before .marked .ensures) ∙ not-false _ (c .if1 .left))) ∙ c .before .before .before .loop .inv .1 m e f))
 
--- src/lib.rt:32:1
 returns-2 : tie.Need-returns-2 Inv-loop μ-loop
 unfolding recordCount recordSize
 returns-2 c = λ m e f. sym (run-stop _ m _ _ (unmarked-past _ m _ (c .before .before .before .pre) (c .loop-test .left))) ∙ c .before .loop .inv .1 m e f

@@ -1,15 +1,12 @@
+-- `bounds::ends::greatest` meets its contract.
+-- Assumes nothing.
 use Rattle.bounds.proofs.Spans.{greatest-yes, greatest-no}
-use borrow.Author.Needs.{needs}
 use Rattle.bounds.proofs.ends.greatest.Statement.{statement}
 use Rattle.bounds.proofs.ends.greatest.Tie as tie
-use Rattle.bounds.proofs.ends.greatest.Reads as reads
-use Rattle.bounds.proofs.ends.greatest.Lts as lts
 
--- src/ends.rt:28:1
 returns : tie.Need-returns
 returns c = greatest-yes (c .before .fits .a) (c .before .fits .b) (c .if1 .taken)
 
--- src/ends.rt:28:1
 returns-2 : tie.Need-returns-2
 returns-2 c = greatest-no (c .before .fits .a) (c .before .fits .b) (c .if1 .left)
 

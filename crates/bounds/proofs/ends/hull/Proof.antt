@@ -1,23 +1,17 @@
+-- `bounds::ends::hull` meets its contract.
+-- Assumes nothing.
 use Rattle.bounds.proofs.Spans.{to-cong, held-both}
 use Rattle.numbers.specs.Whole as Whole
 use Rattle.rules.specs.Bounds.{hull}
-use borrow.Author.Needs.{needs}
 use Rattle.bounds.proofs.ends.hull.Statement.{statement}
 use Rattle.bounds.proofs.ends.hull.Tie as tie
-use Rattle.bounds.proofs.ends.hull.Reads as reads
-use Rattle.bounds.proofs.ends.hull.Lts as lts
-use Rattle.bounds.proofs.ends.greatest.Reads as greatest-reads
-use Rattle.bounds.proofs.ends.least.Reads as least-reads
 
--- src/ends.rt:62:14
 least-requires : tie.Need-least-requires
 least-requires c κs = tt
 
--- src/ends.rt:63:15
 greatest-requires : tie.Need-greatest-requires
 greatest-requires c κs = tt
 
--- src/ends.rt:58:1
 returns : tie.Need-returns
 unfolding hull
 returns c = to-cong (held-both Whole.least (record { sfits = c .before .before .before .before .before .struct-told .given .0 .1 }) (record { sfits = c .before .before .before .before .struct-told2 .given .0 .1 }) (record { sfits = c .before .before .before .least .ok }) (c .before .before .before .least .ensures)) (held-both Whole.greatest (record { sfits = c .before .before .struct-told3 .given .1 .0 .1 }) (record { sfits = c .before .struct-told4 .given .1 .0 .1 }) (record { sfits = c .greatest .ok }) (c .greatest .ensures))

@@ -1,26 +1,19 @@
+-- `bounds::ends::largest` meets its contract.
+-- Assumes nothing.
 use Rattle.bounds.proofs.Spans.{largest-held}
 use Rattle.numbers.proofs.Magnitudes.{held-small, limit-small}
-use borrow.Author.Needs.{needs}
 use Rattle.bounds.proofs.ends.largest.Statement.{statement}
 use Rattle.bounds.proofs.ends.largest.Tie as tie
-use Rattle.bounds.proofs.ends.largest.Reads as reads
-use Rattle.bounds.proofs.ends.largest.Lts as lts
-use Rattle.bounds.proofs.ends.greatest.Reads as greatest-reads
-use Rattle.bounds.proofs.ends.magnitude.Reads as magnitude-reads
 
--- src/ends.rt:123:14
 magnitude-requires : tie.Need-magnitude-requires
 magnitude-requires c κs = rw (held-small (c .before .args .i .low) (limit-small (c .before .args .i .low) (c .before .pre .low))) (c .before .pre .low)
 
--- src/ends.rt:123:32
 magnitude-requires-2 : tie.Need-magnitude-requires-2
 magnitude-requires-2 c κs = let d = c .before .before .before in rw (held-small (d .args .i .high) (limit-small (d .args .i .high) (d .pre .high))) (d .pre .high)
 
--- src/ends.rt:123:5
 greatest-requires : tie.Need-greatest-requires
 greatest-requires c κs = tt
 
--- src/ends.rt:119:1
 returns : tie.Need-returns
 returns c = let d = c .before .before .before .before .before in largest-held (d .args .i) (d .pre) (record { sfits = c .before .before .before .magnitude .ok }) (record { sfits = c .before .magnitude2 .ok }) (record { sfits = c .greatest .ok }) (c .before .before .before .magnitude .ensures) (c .before .magnitude2 .ensures) (c .greatest .ensures)
 

@@ -1,22 +1,17 @@
+-- `bounds::ends::lesser` meets its contract.
+-- Assumes nothing.
 use Rattle.bounds.proofs.Spans.{to-cong, held-both}
 use Rattle.numbers.specs.Whole as Whole
 use Rattle.rules.specs.Bounds.{arithInterval}
-use borrow.Author.Needs.{needs}
 use Rattle.bounds.proofs.ends.lesser.Statement.{statement}
 use Rattle.bounds.proofs.ends.lesser.Tie as tie
-use Rattle.bounds.proofs.ends.lesser.Reads as reads
-use Rattle.bounds.proofs.ends.lesser.Lts as lts
-use Rattle.bounds.proofs.ends.least.Reads as least-reads
 
--- src/ends.rt:104:14
 least-requires : tie.Need-least-requires
 least-requires c κs = tt
 
--- src/ends.rt:105:15
 least-requires-2 : tie.Need-least-requires-2
 least-requires-2 c κs = tt
 
--- src/ends.rt:100:1
 returns : tie.Need-returns
 unfolding arithInterval
 returns c = to-cong (held-both Whole.least (record { sfits = c .before .before .before .before .before .struct-told .given .0 .1 }) (record { sfits = c .before .before .before .before .struct-told2 .given .0 .1 }) (record { sfits = c .before .before .before .least .ok }) (c .before .before .before .least .ensures)) (held-both Whole.least (record { sfits = c .before .before .struct-told3 .given .1 .0 .1 }) (record { sfits = c .before .struct-told4 .given .1 .0 .1 }) (record { sfits = c .least2 .ok }) (c .least2 .ensures))

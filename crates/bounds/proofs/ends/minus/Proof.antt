@@ -1,22 +1,18 @@
+-- `bounds::ends::minus` meets its contract.
+-- Assumes nothing.
+use lib.IntN.{_-ℤ_}
 use Rattle.bounds.proofs.Spans.{to-cong}
 use Rattle.numbers.proofs.Magnitudes.{op-fits, op-held, difference-small}
 use Rattle.rules.specs.Bounds.{arithInterval}
-use lib.IntN.{_-ℤ_}
-use borrow.Author.Needs.{needs}
 use Rattle.bounds.proofs.ends.minus.Statement.{statement}
 use Rattle.bounds.proofs.ends.minus.Tie as tie
-use Rattle.bounds.proofs.ends.minus.Reads as reads
-use Rattle.bounds.proofs.ends.minus.Lts as lts
 
--- src/ends.rt:84:14
 sub-t3 : tie.Need-sub-t3
 sub-t3 c = let c0 = c .before .before .before .before in op-fits _-ℤ_ difference-small (c0 .args .i .low) (c0 .args .j .high) (c0 .pre .0 .low) (c0 .pre .1 .high)
 
--- src/ends.rt:85:15
 sub-t4 : tie.Need-sub-t4
 sub-t4 c = let c0 = c .before .before .before .before .before .before .before .before in op-fits _-ℤ_ difference-small (c0 .args .i .high) (c0 .args .j .low) (c0 .pre .0 .high) (c0 .pre .1 .low)
 
--- src/ends.rt:78:1
 returns : tie.Need-returns
 unfolding arithInterval
 returns c = let c0 = c .before .before .before .before .before .before .before .before in to-cong (op-held _-ℤ_ difference-small (c0 .args .i .low) (c0 .args .j .high) (c0 .pre .0 .low) (c0 .pre .1 .high)) (op-held _-ℤ_ difference-small (c0 .args .i .high) (c0 .args .j .low) (c0 .pre .0 .high) (c0 .pre .1 .low))

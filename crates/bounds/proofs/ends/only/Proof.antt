@@ -1,13 +1,11 @@
+-- `bounds::ends::only` meets its contract.
+-- Assumes nothing.
 use Rattle.bounds.proofs.Spans.{to-cong}
 use Rattle.rules.specs.Bounds.{only}
 use mir.Facts.{toZ-ofZ}
-use borrow.Author.Needs.{needs}
 use Rattle.bounds.proofs.ends.only.Statement.{statement}
 use Rattle.bounds.proofs.ends.only.Tie as tie
-use Rattle.bounds.proofs.ends.only.Reads as reads
-use Rattle.bounds.proofs.ends.only.Lts as lts
 
--- src/ends.rt:51:1
 returns : tie.Need-returns
 unfolding only
 returns c = to-cong (toZ-ofZ (c .fits .z)) (toZ-ofZ (c .fits .z))

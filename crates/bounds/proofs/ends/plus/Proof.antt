@@ -1,22 +1,18 @@
+-- `bounds::ends::plus` meets its contract.
+-- Assumes nothing.
+use lib.IntN.{_+ℤ_}
 use Rattle.bounds.proofs.Spans.{to-cong}
 use Rattle.numbers.proofs.Magnitudes.{op-fits, op-held, sum-small}
 use Rattle.rules.specs.Bounds.{arithInterval}
-use lib.IntN.{_+ℤ_}
-use borrow.Author.Needs.{needs}
 use Rattle.bounds.proofs.ends.plus.Statement.{statement}
 use Rattle.bounds.proofs.ends.plus.Tie as tie
-use Rattle.bounds.proofs.ends.plus.Reads as reads
-use Rattle.bounds.proofs.ends.plus.Lts as lts
 
--- src/ends.rt:73:14
 add-t3 : tie.Need-add-t3
 add-t3 c = let c0 = c .before .before .before .before in op-fits _+ℤ_ sum-small (c0 .args .i .low) (c0 .args .j .low) (c0 .pre .0 .low) (c0 .pre .1 .low)
 
--- src/ends.rt:74:15
 add-t4 : tie.Need-add-t4
 add-t4 c = let c0 = c .before .before .before .before .before .before .before .before in op-fits _+ℤ_ sum-small (c0 .args .i .high) (c0 .args .j .high) (c0 .pre .0 .high) (c0 .pre .1 .high)
 
--- src/ends.rt:67:1
 returns : tie.Need-returns
 unfolding arithInterval
 returns c = let c0 = c .before .before .before .before .before .before .before .before in to-cong (op-held _+ℤ_ sum-small (c0 .args .i .low) (c0 .args .j .low) (c0 .pre .0 .low) (c0 .pre .1 .low)) (op-held _+ℤ_ sum-small (c0 .args .i .high) (c0 .args .j .high) (c0 .pre .0 .high) (c0 .pre .1 .high))

@@ -1,26 +1,20 @@
+-- `bounds::ends::remainders` meets its contract.
+-- Assumes nothing.
 use Rattle.bounds.proofs.Spans.{magnitude-≤, none-left, one-less-fits, remainders-span}
 use Rattle.rules.specs.Bounds.{divideInterval}
-use borrow.Author.Needs.{needs}
 use Rattle.bounds.proofs.ends.remainders.Statement.{statement}
 use Rattle.bounds.proofs.ends.remainders.Tie as tie
-use Rattle.bounds.proofs.ends.remainders.Reads as reads
-use Rattle.bounds.proofs.ends.remainders.Lts as lts
-use Rattle.bounds.proofs.ends.largest.Reads as largest-reads
 
--- src/ends.rt:138:9
 largest-requires : tie.Need-largest-requires
 largest-requires c κs = c .pre
 
--- src/ends.rt:142:30
 sub-t6 : tie.Need-sub-t6
 sub-t6 c = one-less-fits (magnitude-≤ (c .before .before .args .j) (c .before .before .pre)) (c .before .largest .ensures) (c .if1 .left)
 
--- src/ends.rt:134:1
 returns : tie.Need-returns
 unfolding divideInterval
 returns c = none-left (magnitude-≤ (c .before .before .args .j) (c .before .before .pre)) (c .before .largest .ensures) (c .if1 .taken)
 
--- src/ends.rt:134:1
 returns-2 : tie.Need-returns-2
 unfolding divideInterval
 returns-2 c = remainders-span (magnitude-≤ (c .before .before .args .j) (c .before .before .pre)) (c .before .largest .ensures) (c .if1 .left)

@@ -1,23 +1,18 @@
+-- `bounds::ends::slot_count` meets its contract.
+-- Assumes nothing.
 use Rattle.bounds.proofs.Spans.{difference-fits, one-more-fits, some-values, no-values}
-use borrow.Author.Needs.{needs}
 use Rattle.bounds.proofs.ends.slot_count.Statement.{statement}
 use Rattle.bounds.proofs.ends.slot_count.Tie as tie
-use Rattle.bounds.proofs.ends.slot_count.Reads as reads
-use Rattle.bounds.proofs.ends.slot_count.Lts as lts
 
--- src/ends.rt:172:9
 sub-result : tie.Need-sub-result
 sub-result c = difference-fits (c .before .before .before .before .before .args .s) (c .before .before .before .before .before .pre)
 
--- src/ends.rt:172:9
 add-result : tie.Need-add-result
 add-result c = one-more-fits (c .before .before .before .before .before .args .s) (c .before .before .before .before .before .pre)
 
--- src/ends.rt:167:1
 returns : tie.Need-returns
 returns c = some-values (c .before .before .before .before .before .args .s) (c .before .before .before .before .before .pre) (c .before .before .if1 .taken)
 
--- src/ends.rt:167:1
 returns-2 : tie.Need-returns-2
 returns-2 c = no-values (c .before .before .before .args .s) (c .before .before .before .pre) (c .if1 .left)
 

@@ -1,19 +1,15 @@
+-- `bounds::ends::slot_values` meets its contract.
+-- Assumes nothing.
 use Rattle.bounds.proofs.Spans.{to-cong, held-both}
 use mir.Facts.{toZ-ofZ}
 use Rattle.numbers.specs.Whole as Whole
 use Rattle.rules.specs.Bounds.{slotInterval}
-use borrow.Author.Needs.{needs}
 use Rattle.bounds.proofs.ends.slot_values.Statement.{statement}
 use Rattle.bounds.proofs.ends.slot_values.Tie as tie
-use Rattle.bounds.proofs.ends.slot_values.Reads as reads
-use Rattle.bounds.proofs.ends.slot_values.Lts as lts
-use Rattle.bounds.proofs.ends.greatest.Reads as greatest-reads
 
--- src/ends.rt:162:15
 greatest-requires : tie.Need-greatest-requires
 greatest-requires c κs = tt
 
--- src/ends.rt:157:1
 returns : tie.Need-returns
 unfolding slotInterval
 returns c = to-cong (toZ-ofZ (record { sfits = c .struct-told3 .given .0 .1 })) (held-both Whole.greatest (record { sfits = c .before .before .before .struct-told .given .0 .1 }) (record { sfits = c .before .before .struct-told2 .given .1 .0 .1 }) (record { sfits = c .before .greatest .ok }) (c .before .greatest .ensures))

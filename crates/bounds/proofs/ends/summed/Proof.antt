@@ -1,24 +1,18 @@
+-- `bounds::ends::summed` meets its contract.
+-- Assumes nothing.
 use Rattle.bounds.proofs.Spans.{to-cong, repeats-fits, repeats-held}
-use borrow.Author.Needs.{needs}
 use Rattle.bounds.proofs.ends.summed.Statement.{statement}
 use Rattle.bounds.proofs.ends.summed.Tie as tie
-use Rattle.bounds.proofs.ends.summed.Reads as reads
-use Rattle.bounds.proofs.ends.summed.Lts as lts
-use Rattle.bounds.proofs.ends.slot_count.Reads as slot-count-reads
 
--- src/ends.rt:184:9
 slot-count-requires : tie.Need-slot-count-requires
 slot-count-requires c κs = c .pre .0
 
--- src/ends.rt:186:14
 mul-t4 : tie.Need-mul-t4
 mul-t4 c = repeats-fits (c .before .before .before .args .s) (c .before .before .before .pre .0) (c .before .before .slot-count .ensures) (c .before .before .before .args .i .low) (c .before .before .before .pre .1 .low)
 
--- src/ends.rt:187:15
 mul-t5 : tie.Need-mul-t5
 mul-t5 c = repeats-fits (c .before .before .before .before .before .args .s) (c .before .before .before .before .before .pre .0) (c .before .before .before .before .slot-count .ensures) (c .before .before .before .before .before .args .i .high) (c .before .before .before .before .before .pre .1 .high)
 
--- src/ends.rt:179:1
 returns : tie.Need-returns
 returns c = let d = c .before .before .before .before .before in to-cong (repeats-held (d .args .s) (d .pre .0) (c .before .before .before .before .slot-count .ensures) (d .args .i .low) (d .pre .1 .low)) (repeats-held (d .args .s) (d .pre .0) (c .before .before .before .before .slot-count .ensures) (d .args .i .high) (d .pre .1 .high))
 

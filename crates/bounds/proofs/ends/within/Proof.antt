@@ -1,16 +1,13 @@
+-- `bounds::ends::within` meets its contract.
+-- Assumes nothing.
 use Rattle.bounds.proofs.Spans.{below-limit, not-below-limit}
 use mir.Facts.{toZ-ofZ}
-use borrow.Author.Needs.{needs}
 use Rattle.bounds.proofs.ends.within.Statement.{statement}
 use Rattle.bounds.proofs.ends.within.Tie as tie
-use Rattle.bounds.proofs.ends.within.Reads as reads
-use Rattle.bounds.proofs.ends.within.Lts as lts
 
--- src/ends.rt:195:9
 returns : tie.Need-returns
 returns c = below-limit _ (rw (toZ-ofZ (c .before .fits .z)) at (c .if1 .taken))
 
--- src/ends.rt:191:1
 returns-2 : tie.Need-returns-2
 returns-2 c = rw (toZ-ofZ (c .before .fits .z)) (not-below-limit _ (rw (toZ-ofZ (c .before .fits .z)) at (c .if1 .left)))
 

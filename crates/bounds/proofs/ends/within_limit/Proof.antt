@@ -1,27 +1,21 @@
+-- `bounds::ends::within_limit` meets its contract.
+-- Assumes nothing.
 use Rattle.bounds.proofs.Spans.{both-yes, first-no}
 use Rattle.numbers.specs.Whole.{withinLimit}
 use mir.Facts.{toZ-ofZ}
-use mathlib.Core.Path.{_∙_, sym, ap}
-use borrow.Author.Needs.{needs}
+use mathlib.Core.Path.{_∙_, ap}
 use Rattle.bounds.proofs.ends.within_limit.Statement.{statement}
 use Rattle.bounds.proofs.ends.within_limit.Tie as tie
-use Rattle.bounds.proofs.ends.within_limit.Reads as reads
-use Rattle.bounds.proofs.ends.within_limit.Lts as lts
-use Rattle.bounds.proofs.ends.within.Reads as within-reads
 
--- src/ends.rt:204:8
 within-requires : tie.Need-within-requires
 within-requires c κs = tt
 
--- src/ends.rt:205:9
 within-requires-2 : tie.Need-within-requires-2
 within-requires-2 c κs = tt
 
--- src/ends.rt:201:1
 returns : tie.Need-returns
 returns c = both-yes (c .before .before .before .within .ensures ∙ ap withinLimit (toZ-ofZ (record { sfits = c .before .before .before .before .struct-told .given .0 .1 }))) (c .before .before .if1 .taken) (c .within2 .ensures ∙ ap withinLimit (toZ-ofZ (record { sfits = c .before .struct-told2 .given .1 .0 .1 })))
 
--- src/ends.rt:201:1
 returns-2 : tie.Need-returns-2
 returns-2 c = first-no _ (c .before .within .ensures ∙ ap withinLimit (toZ-ofZ (record { sfits = c .before .before .struct-told .given .0 .1 }))) (c .if1 .left)
 

@@ -1,28 +1,23 @@
+-- `layout::fields::kind_at` meets its contract.
+-- Assumes nothing.
 use native.Mathlib.Omega.{arith}
 use mathlib.Core.Path.{refl}
 use Rattle.table.specs.Records.{recordSize, kindAt, byteAt}
-use borrow.Author.Needs.{needs}
 use Rattle.layout.proofs.fields.kind_at.Statement.{statement}
 use Rattle.layout.proofs.fields.kind_at.Tie as tie
-use Rattle.layout.proofs.fields.kind_at.Reads as reads
-use Rattle.layout.proofs.fields.kind_at.Lts as lts
 
--- src/fields.rt:51:7
 mul-result : tie.Need-mul-result
 unfolding recordSize
 mul-result c = omega arith
 
--- src/fields.rt:51:7
 add-result : tie.Need-add-result
 unfolding recordSize
 add-result c = omega arith
 
--- src/fields.rt:51:5
 shared-slice-read-result : tie.Need-shared-slice-read-result
 unfolding recordSize
 shared-slice-read-result c = omega arith
 
--- src/fields.rt:47:1
 returns : tie.Need-returns
 unfolding kindAt byteAt recordSize
 returns c = refl

@@ -1,44 +1,36 @@
+-- `layout::fields::marked` meets its contract.
+-- Assumes nothing.
 use borrow.Author.Tests.{eq-eqb, ne-eqb}
 use Rattle.layout.specs.Bytes.{lettered}
 use Rattle.table.specs.Records.{recordSize, byteAt}
 use native.Mathlib.Omega.{arith}
-use borrow.Author.Needs.{needs}
 use Rattle.layout.proofs.fields.marked.Statement.{statement}
 use Rattle.layout.proofs.fields.marked.Tie as tie
-use Rattle.layout.proofs.fields.marked.Reads as reads
-use Rattle.layout.proofs.fields.marked.Lts as lts
 
--- src/fields.rt:89:7
 mul-if1 : tie.Need-mul-if1
 unfolding recordSize
 mul-if1 c = omega arith
 
--- src/fields.rt:89:5
 shared-slice-read-if1 : tie.Need-shared-slice-read-if1
 unfolding recordSize
 shared-slice-read-if1 c = omega arith
 
--- src/fields.rt:89:29
 mul-result : tie.Need-mul-result
 unfolding recordSize
 mul-result c = omega arith
 
--- src/fields.rt:89:29
 add-result : tie.Need-add-result
 unfolding recordSize
 add-result c = omega arith
 
--- src/fields.rt:89:27
 shared-slice-read-result : tie.Need-shared-slice-read-result
 unfolding recordSize
 shared-slice-read-result c = omega arith
 
--- src/fields.rt:85:1
 returns : tie.Need-returns
 unfolding lettered byteAt recordSize
 returns c = rw (eq-eqb _ _ (c .before .if1 .taken))
 
--- src/fields.rt:85:1
 returns-2 : tie.Need-returns-2
 unfolding lettered byteAt recordSize
 returns-2 c = rw (ne-eqb _ _ (c .if1 .left))

@@ -1,3 +1,5 @@
+-- `layout::fields::name_y` meets its contract.
+-- Assumes nothing.
 use Rattle.table.specs.Records.{recordSize, yAt}
 use Rattle.table.specs.Records as Records
 use lib.IntN.{natAbs}
@@ -7,31 +9,22 @@ use native.Mathlib.Omega.{arith}
 use borrow.Author.Needs.{needs}
 use Rattle.layout.proofs.fields.name_y.Statement.{statement}
 use Rattle.layout.proofs.fields.name_y.Tie as tie
-use Rattle.layout.proofs.fields.name_y.Reads as reads
-use Rattle.layout.proofs.fields.name_y.Lts as lts
-use Rattle.layout.proofs.fields.named.Reads as named-reads
-use Rattle.layout.proofs.fields.word_at.Reads as word-at-reads
 
--- src/fields.rt:81:22
 mul-word-at : tie.Need-mul-word-at
 unfolding recordSize
 mul-word-at c = omega arith
 
--- src/fields.rt:81:22
 add-word-at : tie.Need-add-word-at
 unfolding recordSize
 add-word-at c = omega arith
 
--- src/fields.rt:81:11
 word-at-requires : tie.Need-word-at-requires
 unfolding recordSize
 word-at-requires c κs = omega arith
 
--- src/fields.rt:81:5
 named-requires : tie.Need-named-requires
 named-requires c κs = search needs
 
--- src/fields.rt:77:1
 returns : tie.Need-returns
 unfolding recordSize yAt
 returns c = c .named .ensures ∙ ap (λ (w : ℕ). natAbs (Records.signed w)) (c .before .word-at .ensures)

@@ -1,20 +1,17 @@
+-- `layout::fields::named` meets its contract.
+-- Assumes nothing.
 use native.Mathlib.Omega.{arith}
 use Rattle.layout.proofs.Words.{signed-low, signed-high}
 use borrow.Author.Needs.{needs}
 use Rattle.layout.proofs.fields.named.Statement.{statement}
 use Rattle.layout.proofs.fields.named.Tie as tie
-use Rattle.layout.proofs.fields.named.Reads as reads
-use Rattle.layout.proofs.fields.named.Lts as lts
 
--- src/fields.rt:42:9
 sub-result : tie.Need-sub-result
 sub-result c = search needs
 
--- src/fields.rt:36:1
 returns : tie.Need-returns
 returns c = rw (signed-low (c .before .args .w) (c .if1 .taken))
 
--- src/fields.rt:36:1
 returns-2 : tie.Need-returns-2
 returns-2 c = rw (signed-high (c .before .args .w) (c .if1 .left)) (omega arith)
 

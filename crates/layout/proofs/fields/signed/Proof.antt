@@ -1,3 +1,5 @@
+-- `layout::fields::signed` meets its contract.
+-- Assumes nothing.
 use native.Mathlib.Omega.{arith}
 use mir.Syntax.{w64}
 use mir.Facts.{toZ-pos, toZ-ofZ}
@@ -5,26 +7,19 @@ use Rattle.layout.proofs.Words.{signed-low, less-high, signed-fits}
 use borrow.Author.Needs.{needs}
 use Rattle.layout.proofs.fields.signed.Statement.{statement}
 use Rattle.layout.proofs.fields.signed.Tie as tie
-use Rattle.layout.proofs.fields.signed.Reads as reads
-use Rattle.layout.proofs.fields.signed.Lts as lts
 
--- src/fields.rt:29:9
 cast-result : tie.Need-cast-result
 cast-result c = search needs
 
--- src/fields.rt:31:9
 cast-result-2 : tie.Need-cast-result-2
 cast-result-2 c = search needs
 
--- src/fields.rt:31:9
 sub-result : tie.Need-sub-result
 sub-result c = rw (toZ-pos w64 {n = c .before .args .w} (omega arith), less-high (c .before .args .w) (c .if1 .left) (omega arith)) (signed-fits (c .before .args .w))
 
--- src/fields.rt:25:1
 returns : tie.Need-returns
 returns c = rw (toZ-pos w64 {n = c .before .args .w} (omega arith), signed-low (c .before .args .w) (c .if1 .taken))
 
--- src/fields.rt:25:1
 returns-2 : tie.Need-returns-2
 returns-2 c = rw (toZ-pos w64 {n = c .before .args .w} (omega arith), less-high (c .before .args .w) (c .if1 .left) (omega arith)) (toZ-ofZ (signed-fits (c .before .args .w)))
 

@@ -1,81 +1,62 @@
+-- `layout::fields::word_at` meets its contract.
+-- Assumes nothing.
 use native.Mathlib.Omega.{arith}
 use Rattle.table.specs.Records.{wordAt, byteAt}
 use borrow.Author.Needs.{needs}
 use Rattle.layout.proofs.fields.word_at.Statement.{statement}
 use Rattle.layout.proofs.fields.word_at.Tie as tie
-use Rattle.layout.proofs.fields.word_at.Reads as reads
-use Rattle.layout.proofs.fields.word_at.Lts as lts
-use Rattle.layout.proofs.fields.wide.Reads as wide-reads
 
--- src/fields.rt:21:10
 shared-slice-read-wide : tie.Need-shared-slice-read-wide
 shared-slice-read-wide c = search needs
 
--- src/fields.rt:21:5
 wide-requires : tie.Need-wide-requires
 wide-requires c κs = search needs
 
--- src/fields.rt:21:32
 add-wide : tie.Need-add-wide
 add-wide c = search needs
 
--- src/fields.rt:21:30
 shared-slice-read-wide-2 : tie.Need-shared-slice-read-wide-2
 shared-slice-read-wide-2 c = search needs
 
--- src/fields.rt:21:25
 wide-requires-2 : tie.Need-wide-requires-2
 wide-requires-2 c κs = search needs
 
--- src/fields.rt:21:56
 add-wide-2 : tie.Need-add-wide-2
 add-wide-2 c = search needs
 
--- src/fields.rt:21:54
 shared-slice-read-wide-3 : tie.Need-shared-slice-read-wide-3
 shared-slice-read-wide-3 c = search needs
 
--- src/fields.rt:21:49
 wide-requires-3 : tie.Need-wide-requires-3
 wide-requires-3 c κs = search needs
 
--- src/fields.rt:21:79
 add-wide-3 : tie.Need-add-wide-3
 add-wide-3 c = search needs
 
--- src/fields.rt:21:77
 shared-slice-read-wide-4 : tie.Need-shared-slice-read-wide-4
 shared-slice-read-wide-4 c = search needs
 
--- src/fields.rt:21:72
 wide-requires-4 : tie.Need-wide-requires-4
 wide-requires-4 c κs = search needs
 
--- src/fields.rt:21:66
 mul-result : tie.Need-mul-result
 mul-result c = search needs
 
--- src/fields.rt:21:49
 add-result : tie.Need-add-result
 add-result c = search needs
 
--- src/fields.rt:21:42
 mul-result-2 : tie.Need-mul-result-2
 mul-result-2 c = search needs
 
--- src/fields.rt:21:25
 add-result-2 : tie.Need-add-result-2
 add-result-2 c = search needs
 
--- src/fields.rt:21:18
 mul-result-3 : tie.Need-mul-result-3
 mul-result-3 c = search needs
 
--- src/fields.rt:21:5
 add-result-3 : tie.Need-add-result-3
 add-result-3 c = search needs
 
--- src/fields.rt:17:1
 returns : tie.Need-returns
 unfolding wordAt byteAt
 returns c = omega arith

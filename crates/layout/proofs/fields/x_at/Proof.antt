@@ -1,38 +1,29 @@
+-- `layout::fields::x_at` meets its contract.
+-- Assumes nothing.
 use mir.Facts.{toZ-ofZ}
 use Rattle.table.specs.Records.{recordSize, xAt}
 use Rattle.table.specs.Records as Records
-use lib.IntN.{natAbs}
-use Prim.Native.Nat.{ℕ}
 use mathlib.Core.Path.{ap, _∙_}
 use native.Mathlib.Omega.{arith}
 use borrow.Author.Needs.{needs}
 use Rattle.layout.proofs.fields.x_at.Statement.{statement}
 use Rattle.layout.proofs.fields.x_at.Tie as tie
-use Rattle.layout.proofs.fields.x_at.Reads as reads
-use Rattle.layout.proofs.fields.x_at.Lts as lts
-use Rattle.layout.proofs.fields.signed.Reads as signed-reads
-use Rattle.layout.proofs.fields.word_at.Reads as word-at-reads
 
--- src/fields.rt:59:23
 mul-word-at : tie.Need-mul-word-at
 unfolding recordSize
 mul-word-at c = omega arith
 
--- src/fields.rt:59:23
 add-word-at : tie.Need-add-word-at
 unfolding recordSize
 add-word-at c = omega arith
 
--- src/fields.rt:59:12
 word-at-requires : tie.Need-word-at-requires
 unfolding recordSize
 word-at-requires c κs = omega arith
 
--- src/fields.rt:59:5
 signed-requires : tie.Need-signed-requires
 signed-requires c κs = search needs
 
--- src/fields.rt:55:1
 returns : tie.Need-returns
 unfolding recordSize xAt
 returns c = toZ-ofZ (record { sfits = c .signed .ok }) ∙ c .signed .ensures ∙ ap Records.signed (c .before .word-at .ensures)

@@ -1,0 +1,116 @@
+// Node records decoded. A node of the other type is met in no sound table: it reads as 0, or as false.
+ghost use mathlib.Core.Path.{_≡_};
+ghost use Prim.Native.Nat.{_+_, _<_};
+ghost use lib.IntN.{natAbs};
+ghost use lib.ListN.{getD};
+ghost use Rattle.table.specs.Records as records;
+ghost use Rattle.answers.specs.Sections.{rowOf};
+ghost use Rattle.evaluator.specs.Nodes.{nodesFrom, node, integerCase, truthCase};
+use crate::records::kind_at;
+use crate::records::named_x;
+use crate::records::named_y;
+use crate::records::x_at;
+use crate::values::Value;
+use table::ArrayNumber;
+use table::NodeNumber;
+use table::SlotNumber;
+use table::VariableNumber;
+
+// Where the number of the first node's record stands among the places.
+pub const NODES: usize = 67;
+
+pub enum IntegerNode {
+    Constant(Value),
+    Variable(VariableNumber),
+    Slot(SlotNumber),
+    Add(NodeNumber, NodeNumber),
+    Subtract(NodeNumber, NodeNumber),
+    Multiply(NodeNumber, NodeNumber),
+    Divide(NodeNumber, NodeNumber),
+    Modulo(NodeNumber, NodeNumber),
+    Negate(NodeNumber),
+    Least(NodeNumber, NodeNumber),
+    Greatest(NodeNumber, NodeNumber),
+    BoolToInt(NodeNumber),
+    Lookup(ArrayNumber, NodeNumber),
+    Sum(SlotNumber, NodeNumber),
+}
+
+pub enum TruthNode {
+    Constant(Value),
+    Variable(VariableNumber),
+    Lookup(ArrayNumber, NodeNumber),
+    And(NodeNumber, NodeNumber),
+    Or(NodeNumber, NodeNumber),
+    Implies(NodeNumber, NodeNumber),
+    Iff(NodeNumber, NodeNumber),
+    Not(NodeNumber),
+    Equal(NodeNumber, NodeNumber),
+    Unequal(NodeNumber, NodeNumber),
+    AtMost(NodeNumber, NodeNumber),
+    Below(NodeNumber, NodeNumber),
+    Exists(SlotNumber, NodeNumber),
+    Forall(SlotNumber, NodeNumber),
+}
+
+fn node_x(t: &[u8; 60000], k: u32) -> NodeNumber
+    requires { ⌜ k < 5000 ⌝ }
+    ensures { λ r. ⌜ r ≡ node (natAbs (records.xAt (now (t .entry)) k)) ⌝ }
+{
+    NodeNumber(named_x(t, k))
+}
+
+fn node_y(t: &[u8; 60000], k: u32) -> NodeNumber
+    requires { ⌜ k < 5000 ⌝ }
+    ensures { λ r. ⌜ r ≡ node (natAbs (records.yAt (now (t .entry)) k)) ⌝ }
+{
+    NodeNumber(named_y(t, k))
+}
+
+pub fn integer_node(t: &[u8; 60000], places: &[u32; 69], n: NodeNumber) -> IntegerNode
+    requires { ⌜ nodesFrom (now places) + n .0 < 5000 ⌝ }
+    ensures { λ r. ⌜ r ≡ integerCase (rowOf (now (t .entry)) (nodesFrom (now (places .entry)) + n .0)) ⌝ }
+{
+    let r = places[NODES] + n.0;
+    match kind_at(t, r) {
+        1 => IntegerNode::Constant(Value::Integer(x_at(t, r))),
+        3 => IntegerNode::Variable(VariableNumber(named_x(t, r))),
+        5 => IntegerNode::Slot(SlotNumber(named_x(t, r))),
+        6 => IntegerNode::Add(node_x(t, r), node_y(t, r)),
+        7 => IntegerNode::Subtract(node_x(t, r), node_y(t, r)),
+        8 => IntegerNode::Multiply(node_x(t, r), node_y(t, r)),
+        9 => IntegerNode::Divide(node_x(t, r), node_y(t, r)),
+        10 => IntegerNode::Modulo(node_x(t, r), node_y(t, r)),
+        11 => IntegerNode::Negate(node_x(t, r)),
+        12 => IntegerNode::Least(node_x(t, r), node_y(t, r)),
+        13 => IntegerNode::Greatest(node_x(t, r), node_y(t, r)),
+        14 => IntegerNode::BoolToInt(node_x(t, r)),
+        15 => IntegerNode::Lookup(ArrayNumber(named_x(t, r)), node_y(t, r)),
+        17 => IntegerNode::Sum(SlotNumber(named_x(t, r)), node_y(t, r)),
+        _ => IntegerNode::Constant(Value::Integer(0)),
+    }
+}
+
+pub fn truth_node(t: &[u8; 60000], places: &[u32; 69], n: NodeNumber) -> TruthNode
+    requires { ⌜ nodesFrom (now places) + n .0 < 5000 ⌝ }
+    ensures { λ r. ⌜ r ≡ truthCase (rowOf (now (t .entry)) (nodesFrom (now (places .entry)) + n .0)) ⌝ }
+{
+    let r = places[NODES] + n.0;
+    match kind_at(t, r) {
+        2 => TruthNode::Constant(Value::Truth(x_at(t, r) == 1)),
+        4 => TruthNode::Variable(VariableNumber(named_x(t, r))),
+        16 => TruthNode::Lookup(ArrayNumber(named_x(t, r)), node_y(t, r)),
+        20 => TruthNode::And(node_x(t, r), node_y(t, r)),
+        21 => TruthNode::Or(node_x(t, r), node_y(t, r)),
+        22 => TruthNode::Implies(node_x(t, r), node_y(t, r)),
+        23 => TruthNode::Iff(node_x(t, r), node_y(t, r)),
+        24 => TruthNode::Not(node_x(t, r)),
+        25 => TruthNode::Equal(node_x(t, r), node_y(t, r)),
+        26 => TruthNode::Unequal(node_x(t, r), node_y(t, r)),
+        27 => TruthNode::AtMost(node_x(t, r), node_y(t, r)),
+        28 => TruthNode::Below(node_x(t, r), node_y(t, r)),
+        29 => TruthNode::Exists(SlotNumber(named_x(t, r)), node_y(t, r)),
+        30 => TruthNode::Forall(SlotNumber(named_x(t, r)), node_y(t, r)),
+        _ => TruthNode::Constant(Value::Truth(false)),
+    }
+}

@@ -1,0 +1,4 @@
+pub mod Cells
+pub mod Plans
+pub mod Readings
+pub mod Words

@@ -1,0 +1,61 @@
+// The new table, record by record.
+ghost use mathlib.Core.Path.{_≡_};
+ghost use Prim.Native.Nat.{_<_};
+ghost use Rattle.answers.specs.Answers.{newCount};
+ghost use Rattle.layout.specs.Passed.{Passed};
+ghost use Rattle.layout.specs.Places.{layoutOf};
+ghost use Rattle.translator.specs.Plans.{planIndex};
+ghost use Rattle.translator.specs.Readings.{meant};
+use crate::tables::PLANS;
+use layout::Layout;
+use layout::fields::kind_at;
+
+pub mod rows;
+pub mod tables;
+pub mod writer;
+
+// How undefined values are read.
+pub enum Reading {
+    Strict,
+    Kleene,
+    Relational,
+}
+
+// Where the plan of a kind begins under a reading.
+fn plan_index(reading: Reading, kind: u8) -> usize
+    requires { ⌜ kind < 31 ⌝ }
+    ensures { λ r. ⌜ r ≡ planIndex (meant reading) kind ⌝ }
+    ensures { λ r. ⌜ r < 369 ⌝ }
+{
+    match reading {
+        Reading::Strict => 4 * kind as usize,
+        Reading::Kleene => 124 + 4 * kind as usize,
+        Reading::Relational => 248 + 4 * kind as usize,
+    }
+}
+
+fn counted(b: u8) -> usize
+    ensures { λ r. ⌜ r ≡ b ⌝ }
+    ensures { λ r. ⌜ r < 256 ⌝ }
+{
+    b as usize
+}
+
+// How many records the new table has.
+pub fn new_records(s: &[u8], at: Layout, reading: Reading) -> usize
+    requires { ⌜ Passed (now s) ⌝ }
+    requires { ⌜ at ≡ layoutOf (now s) ⌝ }
+    ensures { λ r. ⌜ r ≡ newCount (now (s .entry)) (meant reading) ⌝ }
+{
+    let plans = PLANS;
+    let nodes = at.nodes;
+    let count = at.constraints - nodes;
+    let mut total = nodes + (at.rest - at.constraints);
+    let mut n = 0;
+    while n < count {
+        let plan = plan_index(reading, kind_at(s, nodes + n));
+        total += counted(plans[plan + 1]);
+        n += 1;
+    }
+    total
+}
