@@ -1,8 +1,8 @@
 -- Walks over a slot's values: the value that is put, one value more, and all of them.
 -- Assumes nothing.
-use mathlib.Core.Path.{_≡_, refl, sym, ap, fun-ext, _∙_}
-use Prim.Native.Nat.{ℕ, zero, suc, _<_}
-use mathlib.Core.Bool.{Bool, true, false, cond, not, _&&_}
+use mathlib.Core.Path.{_≡_, refl, sym, fun-ext}
+use Prim.Native.Nat.{ℕ, suc, _<_}
+use mathlib.Core.Bool.{Bool, true, false, not, _&&_}
 use mathlib.Core.List.{List}
 use mathlib.Core.Option.{Option, none, some}
 use lib.Dec.{T, eqb, eqb→eq, eqb-refl}
@@ -14,10 +14,10 @@ use Rattle.language.specs.Syntax as syntax
 use Rattle.language.specs.Tables.{treeI, treeB}
 use Rattle.language.specs.Readings as readings
 use Rattle.language.specs.Readings.{both, connective, joins, ofNone, over, quantified, summed}
-use Rattle.language.specs.Meaning.{Assignment, Setting, put, slotAt, count, valueI, valueB, calmValue, throughout, calmI, calmB}
+use Rattle.language.specs.Meaning.{Assignment, put, slotAt, count, valueI, valueB, calmValue, throughout, calmI, calmB}
 use Rattle.evaluator.specs.declared.values.Walked.{Walked}
 use Rattle.evaluator.specs.declared.sums.Total.{Total}
-use Rattle.evaluator.specs.Values.{ofInteger, ofTruth, integerOf, truthOf, ofCalm, limitedTo, truthTo}
+use Rattle.evaluator.specs.Values.{ofInteger, ofTruth, ofCalm, limitedTo}
 use Rattle.evaluator.specs.Truths.{connected}
 use Rattle.evaluator.specs.Sums.{totalOf, totalValue, plusTo}
 use Rattle.evaluator.specs.Walks.{declared, treesOf, settingOf, integerWalked, truthWalked, integerAt, truthAt, sumAt, quantifiedAt}

@@ -1,21 +1,21 @@
 -- What the walk over a node gives, from its decoded case; and the operands of a case have smaller numbers.
 -- Assumes nothing.
-use mathlib.Core.Path.{_≡_, refl, sym, ap, subst, _∙_}
-use Prim.Native.Nat.{ℕ, _+_, _<_}
+use mathlib.Core.Path.{_≡_, refl, ap, _∙_}
+use Prim.Native.Nat.{ℕ, _<_}
 use mathlib.Core.Bool.{true, false}
 use mathlib.Core.List.{List}
 use mathlib.Core.Option.{some}
-use lib.IntN.{ℤ, pos}
+use lib.IntN.{ℤ}
 use lib.ListN.{getD}
 use Rattle.numbers.specs.Whole.{withinLimit}
 use Rattle.language.specs.Syntax as syntax
-use Rattle.language.specs.Tables.{Row, constantRow, variableRow, slotRow, arithRow, divideRow, negateRow, boolToIntRow, lookupRow, sumRow, truthRow, variableBRow, lookupBRow, connectRow, negationRow, compareRow, quantifyRow, Tree, asI, asB, treeI, treeB, treeAt, fill, trees}
+use Rattle.language.specs.Tables.{Row, constantRow, variableRow, slotRow, arithRow, divideRow, negateRow, boolToIntRow, lookupRow, sumRow, truthRow, variableBRow, lookupBRow, connectRow, negationRow, compareRow, quantifyRow, asI, asB, treeI, treeB, treeAt, fill, trees}
 use Rattle.language.specs.Readings as readings
 use Rattle.language.specs.Readings.{arithmetic, division}
 use Rattle.language.specs.Meaning.{Assignment, isOne, valueOf, valueI, valueB, calmValue, calmI, calmB}
 use Rattle.language.proofs.Trees.{tree-at, NamesBelow}
 use Rattle.answers.specs.Sections.{listed}
-use Rattle.evaluator.specs.declared.values.Value.the-variants.{Integer, Truth}
+use Rattle.evaluator.specs.declared.values.Value.the-variants.{Truth}
 use Rattle.evaluator.specs.declared.values.Walked.{Walked}
 use Rattle.evaluator.specs.declared.nodes.IntegerNode.{IntegerNode}
 use Rattle.evaluator.specs.declared.nodes.IntegerNode.the-variants as integer

@@ -1,17 +1,16 @@
 -- What the array of places and the padded table declare: slots, arrays and elements, each where it is declared and past the end.
 -- Assumes nothing.
-use mathlib.Core.Path.{_≡_, refl, sym, ap, _∙_}
+use mathlib.Core.Path.{_≡_, refl, ap, _∙_}
 use Prim.Native.Nat.{ℕ, zero, suc, _+_, _≤_, _<_}
 use native.Mathlib.Omega.{arith}
 use native.Mathlib.Decide.{decLt}
 use mathlib.Core.Bool.{Bool, true, false, cond}
 use mathlib.Core.List.{List, [], _∷_, _++_, map}
-use mathlib.Core.Option.{Option, none, some, Option·map}
+use mathlib.Core.Option.{none, some, Option·map}
 use lib.IntN.{ℤ, pos, natAbs, _-ℤ_}
 use lib.ListN.{length, getD, take, getElem?, length-append, List·getD-append}
 use lib.Seq.{getD-at, getD-take, length-take-le}
 use lib.Signed.{leZ}
-use Rattle.language.specs.Syntax.{Slot}
 use Rattle.language.specs.Meaning.{Assignment, noSlot, noArray, slotAt, arrayAt, elementValue, elementAt}
 use Rattle.table.specs.Records.{xAt, yAt}
 use Rattle.answers.specs.Sections.{listed, slotOf, elementOf, arrayOf}

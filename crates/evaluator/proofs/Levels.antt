@@ -1,6 +1,6 @@
 -- Levels of truth values: false below undefined below true. Kleene's and is the lesser level, his or the greater.
 -- Assumes nothing.
-use mathlib.Core.Path.{_≡_, refl, sym, ap, _∙_}
+use mathlib.Core.Path.{_≡_, refl, sym, _∙_}
 use Prim.Native.Nat.{ℕ, _≤_, _<_}
 use native.Mathlib.Omega.{arith}
 use mathlib.Core.Bool.{Bool, true, false, cond}
@@ -8,7 +8,7 @@ use mathlib.Core.Option.{Option, none, some}
 use lib.Dec.{eqb, leb}
 use borrow.Author.Tests.{le-leb, lt-leb, eq-eqb, ne-eqb}
 use Rattle.language.specs.Syntax.{Connective, iff}
-use Rattle.language.specs.Readings.{both, logic, strictly, kleeneAnd, kleeneOr, kleenely}
+use Rattle.language.specs.Readings.{both, logic, strictly, kleeneAnd, kleeneOr}
 use Rattle.evaluator.specs.Truths.{levelOf, levelled}
 
 -- A truth value is that of its level.

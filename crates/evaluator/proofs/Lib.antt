@@ -4,4 +4,6 @@ pub mod Declared
 pub mod Decoding
 pub mod Levels
 pub mod Pairs
+pub mod Stepping
+pub mod Turning
 pub mod Walking

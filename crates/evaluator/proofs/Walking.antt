@@ -1,31 +1,22 @@
 -- What a walk over an expression gives, from what it gave over its operands; and over a node, from its decoded case.
 -- Assumes nothing.
-use mathlib.Core.Path.{_≡_, refl, sym, ap, fun-ext, _∙_}
-use Prim.Native.Nat.{ℕ, zero, suc, _+_, _<_}
+use mathlib.Core.Path.{_≡_, refl, sym}
+use Prim.Native.Nat.{ℕ}
 use native.Mathlib.Omega.{arith}
-use mathlib.Core.Bool.{Bool, true, false, cond, not, _&&_}
-use mathlib.Core.List.{List}
+use mathlib.Core.Bool.{Bool, true, false, _&&_}
 use mathlib.Core.Option.{Option, none, some, Option·map, bind}
-use lib.Dec.{eqb, eqb→eq}
-use lib.IntN.{ℤ, pos, negℤ, _+ℤ_}
-use lib.ListN.{length, getD, set}
-use lib.Seq.{getD-set-same, getD-set-other}
+use lib.IntN.{ℤ, negℤ}
 use Rattle.numbers.specs.Whole.{withinLimit}
 use Rattle.language.specs.Syntax as syntax
 use Rattle.language.specs.Syntax.{IExp, BExp, Declarations}
-use Rattle.language.specs.Tables.{Row, constantRow, variableRow, slotRow, arithRow, divideRow, negateRow, boolToIntRow, lookupRow, sumRow, truthRow, variableBRow, lookupBRow, connectRow, negationRow, compareRow, quantifyRow, Tree, asI, asB, treeI, treeB, treeAt, fill, trees}
 use Rattle.language.specs.Readings as readings
-use Rattle.language.specs.Readings.{both, arithmetic, division, comparison, connective, closed, opposite, over, quantified, summed}
-use Rattle.language.specs.Meaning.{Assignment, Setting, put, slotAt, arrayAt, count, isOne, number, valueOf, elementAt, valueI, valueB, calmValue, throughout, calmI, calmB}
-use Rattle.language.proofs.Trees.{tree-at, NamesBelow}
-use Rattle.answers.specs.Sections.{listed}
-use Rattle.evaluator.specs.declared.values.Value.the-variants.{Integer, Truth, Undefined}
+use Rattle.language.specs.Readings.{both, arithmetic, division, comparison, connective, closed, opposite}
+use Rattle.language.specs.Meaning.{Assignment, Setting, arrayAt, isOne, number, elementAt, valueI, valueB, calmValue, calmI, calmB}
 use Rattle.evaluator.specs.declared.values.Walked.{Walked}
 use Rattle.evaluator.specs.Values.{ofInteger, ofTruth, integerOf, truthOf, ofCalm, limitedTo, truthTo}
 use Rattle.evaluator.specs.Operations.{integers, negated, numbered}
 use Rattle.evaluator.specs.Truths.{compared, connected, opposed}
-use Rattle.evaluator.specs.Walks.{nodeCount, declared, rowAt, treesOf, Laid, settingOf, integerWalked, truthWalked, lookedUp, lookedUpTruth, integerAt, truthAt}
-use Rattle.evaluator.proofs.Declared.{length-listed, listed-at}
+use Rattle.evaluator.specs.Walks.{integerWalked, truthWalked, lookedUp, lookedUpTruth}
 use Rattle.evaluator.proofs.Pairs.{integerOf-ofInteger}
 
 truthOf-ofTruth : (v : Option Bool) → truthOf (ofTruth v) ≡ v

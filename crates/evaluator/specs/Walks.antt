@@ -6,16 +6,16 @@ use Prim.Native.Nat.{ℕ, _+_, _-_, _≤_, _<_}
 use mathlib.Core.Bool.{true}
 use mathlib.Core.Path.{_≡_}
 use mathlib.Core.List.{List, map}
-use mathlib.Core.Option.{Option, none, some, Option·map, bind}
-use lib.IntN.{ℤ, pos}
+use mathlib.Core.Option.{some, Option·map, bind}
+use lib.IntN.{ℤ, pos, natAbs}
 use lib.ListN.{length, getD, take}
-use Rattle.numbers.specs.Limits.{mostSlots, mostSlotValues, mostArrays}
+use Rattle.numbers.specs.Limits.{mostSlots, mostSlotValues, mostArrays, reach}
 use Rattle.language.specs.Syntax as syntax
 use Rattle.language.specs.Syntax.{IExp, BExp, Slot, Declarations}
 use Rattle.language.specs.Tables.{Row, constantRow, variableRow, slotRow, arithRow, divideRow, negateRow, boolToIntRow, lookupRow, sumRow, truthRow, variableBRow, lookupBRow, connectRow, negationRow, compareRow, quantifyRow, Tree, trees, treeI, treeB}
 use Rattle.language.specs.Readings as readings
 use Rattle.language.specs.Readings.{closed}
-use Rattle.language.specs.Meaning.{Assignment, Setting, slotAt, arrayAt, count, isOne, valueOf, elementAt, valueI, valueB, calmI, calmB}
+use Rattle.language.specs.Meaning.{Assignment, Setting, arrayAt, count, isOne, valueOf, elementAt, valueI, valueB, calmI, calmB}
 use Rattle.language.proofs.Trees.{NamesBelow}
 use Rattle.answers.specs.Sections.{listed, variableOf, slotOf, arrayOf, behindArray, rowOf}
 use Rattle.evaluator.specs.declared.values.Walked.{Walked}
@@ -64,6 +64,7 @@ module _ (bs places : List ℕ) where
     pub few-slots : slotCount places ≤ mostSlots
     pub slots-in : slotsFrom places + slotCount places ≤ 5000
     pub few-values : (s : ℕ) → s < slotCount places → count (slotOf bs (slotsFrom places + s)) ≤ mostSlotValues
+    pub near-slots : (s : ℕ) → s < slotCount places → natAbs (slotOf bs (slotsFrom places + s) .low) ≤ reach
     pub few-arrays : arrayCount places ≤ mostArrays
     pub arrays-in : (A : ℕ) → A < arrayCount places → behindArray bs (getD places A 0) ≤ 5000
 

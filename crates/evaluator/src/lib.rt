@@ -7,3 +7,4 @@ pub mod records;
 pub mod sums;
 pub mod truths;
 pub mod values;
+pub mod walk;

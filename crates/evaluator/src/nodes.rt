@@ -2,7 +2,6 @@
 ghost use mathlib.Core.Path.{_≡_};
 ghost use Prim.Native.Nat.{_+_, _<_};
 ghost use lib.IntN.{natAbs};
-ghost use lib.ListN.{getD};
 ghost use Rattle.table.specs.Records as records;
 ghost use Rattle.answers.specs.Sections.{rowOf};
 ghost use Rattle.evaluator.specs.Nodes.{nodesFrom, node, integerCase, truthCase};

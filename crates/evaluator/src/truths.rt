@@ -4,7 +4,7 @@ ghost use mathlib.Core.Bool.{Bool};
 ghost use mathlib.Core.Option.{Option, none, Option·map};
 ghost use Rattle.language.specs.Readings as readings;
 ghost use Rattle.language.specs.Meaning.{isOne};
-ghost use Rattle.evaluator.specs.Values.{readingOf, ofTruth, ofCalm, integerOf, truthOf, truthTo};
+ghost use Rattle.evaluator.specs.Values.{readingOf, integerOf, truthOf, truthTo};
 ghost use Rattle.evaluator.specs.Truths.{comparisonOf, connectiveOf, levelOf, levelled, compared, connected, opposed};
 use crate::operations::Operands;
 use crate::operations::integers_of;

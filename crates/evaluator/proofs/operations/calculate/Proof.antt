@@ -1,15 +1,14 @@
 -- `evaluator::operations::calculate` meets its contract, by its operands' case.
 -- Assumes nothing.
 use mathlib.Core.Path.{_≡_, sym, ap, _∙_}
-use mathlib.Core.Bool.{Bool, true}
-use mathlib.Core.Option.{Option, some}
+use mathlib.Core.Bool.{true}
+use mathlib.Core.Option.{some}
 use lib.IntN.{ℤ}
 use mir.Syntax.{w32, w64}
 use mir.Val.{SFits, toZ, ofZ}
 use mir.Facts.{toZ-ofZ}
 use borrow.Author.Needs.{needs, sfits-of}
 use Rattle.language.specs.Readings.{arithmetic}
-use Rattle.evaluator.specs.declared.values.Walked.{Walked}
 use Rattle.evaluator.specs.Values.{limitedTo}
 use Rattle.evaluator.specs.Operations.{arithmeticOf}
 use Rattle.evaluator.proofs.Pairs.{integers-both, integers-missing}

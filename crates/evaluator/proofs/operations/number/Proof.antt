@@ -1,8 +1,8 @@
 -- `evaluator::operations::number` meets its contract, by its operand's case.
 -- Assumes nothing.
-use mathlib.Core.Path.{_≡_, refl, sym, ap, _∙_}
+use mathlib.Core.Path.{_≡_, ap, _∙_}
 use mathlib.Core.Bool.{Bool, true, false}
-use mathlib.Core.Option.{Option, none, some, Option·map}
+use mathlib.Core.Option.{none, some, Option·map}
 use lib.IntN.{ℤ, pos}
 use borrow.Author.Needs.{needs}
 use Rattle.language.specs.Meaning as meaning

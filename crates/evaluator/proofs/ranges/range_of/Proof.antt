@@ -1,19 +1,19 @@
 -- `evaluator::ranges::range_of` meets its contract.
 -- Assumes nothing.
 use borrow.Author.Needs.{needs, sfits-of}
-use mathlib.Core.Path.{_≡_, refl, sym, ap, _∙_}
-use Prim.Native.Nat.{ℕ, _+_, _≤_, _<_}
+use mathlib.Core.Path.{_≡_, sym, ap, _∙_}
+use Prim.Native.Nat.{ℕ, _+_}
 use mathlib.Core.List.{List}
 use lib.IntN.{ℤ, pos}
 use mir.Syntax.{w32}
 use mir.Val.{SFits, toZ, ofZ}
 use mir.Facts.{toZ-ofZ}
 use Rattle.language.specs.Syntax.{Slot}
-use Rattle.language.specs.Meaning.{count, noSlot, slotAt}
+use Rattle.language.specs.Meaning.{count, noSlot}
 use Rattle.table.specs.Records.{xAt, yAt}
 use Rattle.answers.specs.Sections.{slotOf}
 use Rattle.evaluator.specs.declared.ranges.Range.{Range}
-use Rattle.evaluator.specs.Walks.{Laid, slotsFrom, slotCount, declared, rangeOf}
+use Rattle.evaluator.specs.Walks.{slotsFrom, rangeOf}
 use Rattle.evaluator.proofs.Declared.{slot-declared, slot-missing}
 use Rattle.evaluator.proofs.ranges.range_of.Statement.{statement}
 use Rattle.evaluator.proofs.ranges.range_of.Tie as tie

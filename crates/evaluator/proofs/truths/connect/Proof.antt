@@ -3,8 +3,7 @@
 use borrow.Author.Needs.{needs}
 use mathlib.Core.Path.{_≡_, ap, _∙_}
 use Prim.Native.Nat.{ℕ}
-use mathlib.Core.Bool.{Bool, true, false}
-use mathlib.Core.Option.{Option}
+use mathlib.Core.Bool.{true, false}
 use Rattle.language.specs.Syntax as syntax
 use Rattle.language.specs.Readings as readings
 use Rattle.language.specs.Readings.{connective}

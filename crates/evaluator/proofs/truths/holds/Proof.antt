@@ -1,8 +1,8 @@
 -- `evaluator::truths::holds` meets its contract, by the comparison.
 -- Assumes nothing.
 use borrow.Author.Needs.{needs}
-use mathlib.Core.Path.{_≡_, ap, _∙_}
-use mathlib.Core.Bool.{Bool, not}
+use mathlib.Core.Path.{_≡_, ap}
+use mathlib.Core.Bool.{not}
 use lib.Dec.{eqb}
 use lib.IntN.{ℤ}
 use lib.Signed.{leZ, ltZ}

@@ -1,7 +1,7 @@
 -- `evaluator::truths::open_level` meets its contract, by the reading.
 -- Assumes nothing.
 use borrow.Author.Needs.{needs}
-use mathlib.Core.Path.{_≡_, refl}
+use mathlib.Core.Path.{_≡_}
 use mathlib.Core.Option.{none}
 use Rattle.language.specs.Readings.{closed}
 use Rattle.evaluator.specs.declared.values.Reading.{Reading}

@@ -1,7 +1,7 @@
 -- `evaluator::values::limited_value` meets its contract, by the value's case.
 -- Assumes nothing.
-use mathlib.Core.Path.{_≡_, refl, ap, sym, _∙_}
-use mathlib.Core.Bool.{Bool, true, false}
+use mathlib.Core.Path.{_≡_, ap, sym, _∙_}
+use mathlib.Core.Bool.{Bool}
 use mathlib.Core.Option.{Option, none, some}
 use lib.IntN.{ℤ}
 use mir.Syntax.{w32}
