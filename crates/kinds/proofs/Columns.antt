@@ -1,13 +1,13 @@
 -- A column of the table of kinds at a row.
 -- Assumes nothing.
-use mathlib.Core.Path.{_≡_, refl, ap, _∙_, sym}
+use mathlib.Core.Path.{_≡_, refl, ap, sym}
 use mathlib.Core.List.{List, [], _∷_, map}
 use mathlib.Core.Option.{Option, none}
 use mathlib.Core.Bool.{Bool, true, false, cond}
 use Prim.Native.Nat.{ℕ, zero, suc, _≤_, _<_}
 use native.Mathlib.Nat.{le-of-suc-le-suc, not-suc-le-zero}
 use native.Mathlib.Omega.{arith}
-use borrow.Author.Tests.{ltb-true, ltb-false, lt-ltb, le-ltb}
+use borrow.Author.Tests.{ltb-true, ltb-false}
 use lib.Dec.{ltb}
 use lib.ListN.{length, getD, List·getD-eq-default}
 use Rattle.table.specs.Kinds.{Kind, kinds, kindOf}
@@ -18,11 +18,6 @@ pub getD-map : {A B : Type 0} (f : A → B) (xs : List A) (n : ℕ) (d : A) (e :
 getD-map f [] n d e h = absurd (not-suc-le-zero h)
 getD-map f (x ∷ xs) zero d e h = refl
 getD-map f (x ∷ xs) (suc n) d e h = getD-map f xs n d e (le-of-suc-le-suc h)
-
--- the kinds are the numbers below 31
-pub kind-beyond : (n : ℕ) → 31 ≤ n → kindOf n ≡ none
-unfolding kindOf kinds
-kind-beyond n h = List·getD-eq-default kinds none h
 
 pub row-within : (n : ℕ) → rowOf n < 31
 unfolding rowOf

@@ -1,9 +1,9 @@
 -- The code's table of kinds, entry by entry, from the table of kinds of document 01, and the same in columns of numbers.
 -- Assumes nothing.
-use Prim.Native.Nat.{ℕ}
-use mathlib.Core.Bool.{cond}
+use Prim.Native.Nat.{ℕ, _+_}
+use mathlib.Core.Bool.{cond, _&&_}
 use mathlib.Core.Option.{Option, none, some}
-use lib.Dec.{ltb}
+use lib.Dec.{eqb, leb, ltb}
 use Rattle.language.specs.Syntax as Syntax
 use Rattle.table.specs.Kinds as Kinds
 use Rattle.kinds.specs.declared.Sort.{Sort}
@@ -81,6 +81,26 @@ bindsIn (Kinds.nodeNumber t) y = 0
 unfoldable pub bindsOf : Option Kinds.Kind → ℕ
 bindsOf none = 0
 bindsOf (some k) = bindsIn (k .fieldX) (k .fieldY)
+
+-- ---- the same numbers from an entry of the code's table
+
+abbrev pub sortTag : Sort → ℕ
+sortTag Boolean = 0
+sortTag Integer = 1
+
+abbrev pub operandCode : Operand → ℕ
+operandCode Missing = 0
+operandCode Unused = 1
+operandCode AnyNumber = 2
+operandCode TruthValue = 3
+operandCode SlotNumber = 4
+operandCode (VariableNumber t) = 5 + sortTag t
+operandCode (ArrayNumber t) = 7 + sortTag t
+operandCode (NodeNumber t) = 9 + sortTag t
+
+-- by the operands' codes: a slot, and a node
+abbrev pub binderFlag : ℕ → ℕ → ℕ
+binderFlag x y = cond (eqb x 4 && leb 9 y) 1 0
 
 -- the row of a kind number: row 0 where there is none
 unfoldable pub rowOf : ℕ → ℕ

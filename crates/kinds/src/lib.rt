@@ -1,8 +1,9 @@
 // "One small table of kinds says which operands each kind takes and what it yields."
 ghost use mathlib.Core.Path.{_≡_};
 ghost use mathlib.Core.List.{map};
+ghost use Prim.Native.Nat.{_≤_};
 ghost use Rattle.table.specs.Kinds.{kinds, kindOf};
-ghost use Rattle.kinds.specs.Entries.{entryOf, codeX, codeY, tagOf, bindsOf, rowOf};
+ghost use Rattle.kinds.specs.Entries.{entryOf, sortTag, operandCode, binderFlag, codeX, codeY, tagOf, bindsOf, rowOf};
 
 // What a variable, an array or a node yields.
 pub enum Sort {
@@ -34,8 +35,6 @@ pub struct Kind {
     pub y: Operand,
     pub yields: Sort,
 }
-
-pub const KIND_COUNT: usize = 31;
 
 // The kinds in the order of their numbers.
 const KINDS: [Kind; 31] = [
@@ -227,162 +226,7 @@ const KINDS: [Kind; 31] = [
     },
 ];
 
-// The same table in columns, as numbers, for loops that go by data: the operand codes of x and of y (`Entries.codeOf`), ..
-pub fn x_codes() -> [u8; 31]
-    ensures { λ r. ⌜ r ≡ map codeX kinds ⌝ }
-{
-    [
-        0,
-        2,
-        3,
-        6,
-        5,
-        4,
-        10,
-        10,
-        10,
-        10,
-        10,
-        10,
-        10,
-        10,
-        9,
-        8,
-        7,
-        4,
-        0,
-        0,
-        9,
-        9,
-        9,
-        9,
-        9,
-        10,
-        10,
-        10,
-        10,
-        4,
-        4,
-    ]
-}
-
-pub fn y_codes() -> [u8; 31]
-    ensures { λ r. ⌜ r ≡ map codeY kinds ⌝ }
-{
-    [
-        0,
-        1,
-        1,
-        1,
-        1,
-        1,
-        10,
-        10,
-        10,
-        10,
-        10,
-        1,
-        10,
-        10,
-        1,
-        10,
-        10,
-        10,
-        0,
-        0,
-        9,
-        9,
-        9,
-        9,
-        1,
-        10,
-        10,
-        10,
-        10,
-        9,
-        9,
-    ]
-}
-
-// .. what each kind yields, 1 for integers, ..
-pub fn yield_tags() -> [u8; 31]
-    ensures { λ r. ⌜ r ≡ map tagOf kinds ⌝ }
-{
-    [
-        0,
-        1,
-        0,
-        1,
-        0,
-        1,
-        1,
-        1,
-        1,
-        1,
-        1,
-        1,
-        1,
-        1,
-        1,
-        1,
-        0,
-        1,
-        0,
-        0,
-        0,
-        0,
-        0,
-        0,
-        0,
-        0,
-        0,
-        0,
-        0,
-        0,
-        0,
-    ]
-}
-
-// .. and which kinds bind a slot in a body.
-pub fn binder_flags() -> [u8; 31]
-    ensures { λ r. ⌜ r ≡ map bindsOf kinds ⌝ }
-{
-    [
-        0,
-        0,
-        0,
-        0,
-        0,
-        0,
-        0,
-        0,
-        0,
-        0,
-        0,
-        0,
-        0,
-        0,
-        0,
-        0,
-        0,
-        1,
-        0,
-        0,
-        0,
-        0,
-        0,
-        0,
-        0,
-        0,
-        0,
-        0,
-        0,
-        1,
-        1,
-    ]
-}
-
-// The row of a kind number in the columns; those that do not exist share row 0.
+// The row of a kind number in the table; those that do not exist share row 0.
 pub fn row(number: u8) -> usize
     ensures { λ r. ⌜ r ≡ rowOf number ⌝ }
 {
@@ -395,4 +239,90 @@ pub fn kind_numbered(number: u8) -> Kind
 {
     let k = row(number);
     KINDS[k]
+}
+
+// What a kind yields as a number: 1 for integers.
+fn tag(sort: Sort) -> u8
+    ensures { λ r. ⌜ r ≡ sortTag sort ⌝ }
+    ensures { λ r. ⌜ r ≤ 1 ⌝ }
+{
+    match sort {
+        Sort::Boolean => 0,
+        Sort::Integer => 1,
+    }
+}
+
+// An operand as a number (`Entries.codeOf`).
+fn code(operand: Operand) -> u8
+    ensures { λ r. ⌜ r ≡ operandCode operand ⌝ }
+{
+    match operand {
+        Operand::Missing => 0,
+        Operand::Unused => 1,
+        Operand::AnyNumber => 2,
+        Operand::TruthValue => 3,
+        Operand::SlotNumber => 4,
+        Operand::VariableNumber(sort) => 5 + tag(sort),
+        Operand::ArrayNumber(sort) => 7 + tag(sort),
+        Operand::NodeNumber(sort) => 9 + tag(sort),
+    }
+}
+
+// 1 for a kind that binds a slot in a body: its operands are a slot and a node.
+fn binder(x: u8, y: u8) -> u8
+    ensures { λ r. ⌜ r ≡ binderFlag x y ⌝ }
+{
+    if (x == 4) & (9 <= y) { 1 } else { 0 }
+}
+
+// The table in columns, as numbers, for loops that go by data: each column is filled from the entries. The operand codes of x and of y, ..
+pub fn x_codes() -> [u8; 31]
+    ensures { λ r. ⌜ r ≡ map codeX kinds ⌝ }
+{
+    let mut codes = [0u8; 31];
+    for k in 0..31u8 {
+        let kind = kind_numbered(k);
+        let x = kind.x;
+        codes[k as usize] = code(x);
+    }
+    codes
+}
+
+pub fn y_codes() -> [u8; 31]
+    ensures { λ r. ⌜ r ≡ map codeY kinds ⌝ }
+{
+    let mut codes = [0u8; 31];
+    for k in 0..31u8 {
+        let kind = kind_numbered(k);
+        let y = kind.y;
+        codes[k as usize] = code(y);
+    }
+    codes
+}
+
+// .. what each kind yields, 1 for integers, ..
+pub fn yield_tags() -> [u8; 31]
+    ensures { λ r. ⌜ r ≡ map tagOf kinds ⌝ }
+{
+    let mut tags = [0u8; 31];
+    for k in 0..31u8 {
+        let kind = kind_numbered(k);
+        let sort = kind.yields;
+        tags[k as usize] = tag(sort);
+    }
+    tags
+}
+
+// .. and which kinds bind a slot in a body.
+pub fn binder_flags() -> [u8; 31]
+    ensures { λ r. ⌜ r ≡ map bindsOf kinds ⌝ }
+{
+    let mut flags = [0u8; 31];
+    for k in 0..31u8 {
+        let kind = kind_numbered(k);
+        let x = kind.x;
+        let y = kind.y;
+        flags[k as usize] = binder(code(x), code(y));
+    }
+    flags
 }

@@ -1,6 +1,5 @@
 -- `kinds::row` meets its contract.
 -- Assumes nothing.
-use mathlib.Core.Path.{_≡_}
 use borrow.Author.Tests.{lt-ltb, le-ltb}
 use Rattle.kinds.specs.Entries.{rowOf}
 use Rattle.kinds.proofs.row.Statement.{statement}
