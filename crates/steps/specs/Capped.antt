@@ -1,0 +1,12 @@
+-- Steps as the code holds them: exact up to the largest budget of 32 bits, and one number for all beyond.
+-- Assumes nothing.
+use Prim.Native.Nat.{ℕ}
+use mathlib.Core.Bool.{cond}
+use lib.Dec.{ltb}
+
+-- 2^32: more than every budget
+abbrev pub pastBudgets : ℕ
+pastBudgets = 4_294_967_296
+
+unfoldable pub capped : ℕ → ℕ
+capped n = cond (ltb n pastBudgets) n pastBudgets

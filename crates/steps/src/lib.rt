@@ -1,0 +1,167 @@
+// "The total is the sum over all constraints, shared nodes counted each time": found beforehand in one pass, however often a node is shared.
+ghost use mathlib.Core.Path.{_≡_};
+ghost use mathlib.Core.List.{map};
+ghost use mathlib.Core.Option.{none};
+ghost use Prim.Native.Nat.{_≤_, _<_};
+ghost use lib.IntN.{natAbs};
+ghost use lib.ListN.{length, getD};
+ghost use Rattle.language.specs.Tables.{treeAt};
+ghost use Rattle.language.specs.Meaning.{slotAt, count};
+ghost use Rattle.language.specs.Steps.{cost};
+ghost use Rattle.table.specs.Kinds.{kinds};
+ghost use Rattle.answers.specs.Sections.{declarations, nodeCount, nodeTrees};
+ghost use Rattle.answers.specs.Check.{checkFault};
+ghost use Rattle.answers.specs.Answers.{totalCost};
+ghost use Rattle.layout.specs.Places.{layoutOf};
+ghost use Rattle.steps.specs.Capped as Capped;
+ghost use Rattle.steps.specs.Shapes.{shapeOf};
+ghost use Rattle.steps.specs.Kept.{Kept};
+use layout::Layout;
+use layout::fields::kind_at;
+use layout::fields::name_x;
+use layout::fields::name_y;
+use layout::fields::x_at;
+use layout::fields::y_at;
+
+// Whose steps a node of each kind takes over: 0 nobody's, 1 those of node x, 2 of node y, 3 of both, 4 of the body y for each value of slot x.
+const SHAPES: [u8; 31] = [
+    0,
+    0,
+    0,
+    0,
+    0,
+    0,
+    3,
+    3,
+    3,
+    3,
+    3,
+    1,
+    3,
+    3,
+    1,
+    2,
+    2,
+    4,
+    0,
+    0,
+    3,
+    3,
+    3,
+    3,
+    1,
+    3,
+    3,
+    3,
+    3,
+    4,
+    4,
+];
+
+// 2^32: more than every budget.
+const PAST_BUDGETS: u64 = 4294967296;
+
+// Steps are told apart up to the largest budget.
+fn capped(steps: u64) -> u64
+    ensures { λ r. ⌜ r ≡ Capped.capped steps ⌝ }
+{
+    if steps < PAST_BUDGETS {
+        steps
+    } else {
+        PAST_BUDGETS
+    }
+}
+
+// The steps kept at k: 0 where there are none.
+fn kept(costs: &[u64; 5000], k: usize) -> u64
+    requires { ⌜ length (now costs) ≡ 5000 ⌝ }
+    ensures { λ r. ⌜ r ≡ getD (now (costs .entry)) k 0 ⌝ }
+{
+    if k < 5000 { costs[k] } else { 0 }
+}
+
+// How many values lie from low to high.
+fn values_between(low: i64, high: i64) -> u64
+    requires { ⌜ natAbs low ≤ 0x8000_0000 ⌝ }
+    requires { ⌜ natAbs high ≤ 0x8000_0000 ⌝ }
+    ensures { λ r. ⌜ r ≡ count (record { low = low; high = high }) ⌝ }
+{
+    if low <= high {
+        (high - low) as u64 + 1
+    } else {
+        0 // 0 times anything is 0
+    }
+}
+
+// How many values slot n has.
+fn slot_count(s: &[u8], at: Layout, n: usize) -> u64
+    requires { ⌜ checkFault (now s) ≡ none ⌝ }
+    requires { ⌜ at ≡ layoutOf (now s) ⌝ }
+    ensures { λ r. ⌜ r ≡ count (slotAt (declarations (now (s .entry))) n) ⌝ }
+{
+    let first = at.slots;
+    if n < at.arrays - first {
+        values_between(x_at(s, first + n), y_at(s, first + n))
+    } else {
+        0
+    }
+}
+
+// The steps of node n from those of the nodes before it: 1, and those of its operands.
+fn node_steps(s: &[u8], at: Layout, shapes: &[u8; 31], costs: &[u64; 5000], n: usize) -> u64
+    requires { ⌜ checkFault (now s) ≡ none ⌝ }
+    requires { ⌜ at ≡ layoutOf (now s) ⌝ }
+    requires { ⌜ now shapes ≡ map shapeOf kinds ⌝ }
+    requires { ⌜ Kept (now s) n (now costs) ⌝ }
+    requires { ⌜ n < nodeCount (now s) ⌝ }
+    ensures { λ r. ⌜ r ≡ Capped.capped (cost (declarations (now (s .entry))) (treeAt (nodeTrees (now (s .entry))) n)) ⌝ }
+{
+    let p = at.nodes + n;
+    let x = name_x(s, p);
+    let y = name_y(s, p);
+    let a = kept(costs, x);
+    let b = kept(costs, y);
+    let kind = kind_at(s, p) as usize;
+    match shapes[kind] {
+        0 => 1,
+        1 => capped(1 + a),
+        2 => capped(1 + b),
+        3 => capped(1 + (a + b)),
+        _ => capped(1 + slot_count(s, at, x) * b),
+    }
+}
+
+// The steps of all constraints from those of the nodes.
+fn constraint_steps(s: &[u8], at: Layout, costs: &[u64; 5000]) -> u64
+    requires { ⌜ checkFault (now s) ≡ none ⌝ }
+    requires { ⌜ at ≡ layoutOf (now s) ⌝ }
+    requires { ⌜ Kept (now s) (nodeCount (now s)) (now costs) ⌝ }
+    ensures { λ r. ⌜ r ≡ Capped.capped (totalCost (now (s .entry))) ⌝ }
+{
+    let first = at.constraints;
+    let count = at.rest - first;
+    let mut total = 0;
+    let mut i = 0;
+    while i < count {
+        total = capped(total + kept(costs, name_x(s, first + i)));
+        i += 1;
+    }
+    total
+}
+
+// The steps of all constraints together, 2^32 where they are more than 2^32 − 1.
+pub fn total_steps(s: &[u8], at: Layout) -> u64
+    requires { ⌜ checkFault (now s) ≡ none ⌝ }
+    requires { ⌜ at ≡ layoutOf (now s) ⌝ }
+    ensures { λ r. ⌜ r ≡ Capped.capped (totalCost (now (s .entry))) ⌝ }
+{
+    let shapes = SHAPES;
+    let mut costs = [0u64; 5000];
+    let count = at.constraints - at.nodes;
+    let mut n = 0;
+    while n < count {
+        costs[n] = node_steps(s, at, &shapes, &costs, n);
+        n += 1;
+    }
+    constraint_steps(s, at, &costs)
+}
