@@ -1,0 +1,4 @@
+pub mod Alike
+pub mod Below
+pub mod Laid
+pub mod Stored

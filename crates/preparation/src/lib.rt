@@ -1,0 +1,50 @@
+// A checked table made ready for the walk: its bytes in an array of fixed length, and where its sections lie.
+ghost use mathlib.Core.Path.{_≡_};
+ghost use Prim.Native.Nat.{_≤_};
+ghost use lib.ListN.{length, replicate};
+ghost use Rattle.numbers.specs.Limits.{mostBytes};
+ghost use Rattle.layout.specs.Passed.{Passed};
+ghost use Rattle.layout.specs.Places.{layoutOf};
+ghost use Rattle.preparation.specs.Prepared.{padded, PlacesOf};
+use layout::Layout;
+use layout::array_records;
+
+// Copies the table into an array of zeros.
+pub fn fill(t: &mut [u8; 60000], table: &[u8])
+    requires { ⌜ now t ≡ replicate mostBytes 0 ⌝ }
+    requires { ⌜ length (now table) ≤ mostBytes ⌝ }
+    ensures { λ r. ⌜ now (t .exit) ≡ padded (now (table .entry)) ⌝ }
+{
+    let end = table.len();
+    let mut i = 0;
+    while i < end {
+        t[i] = table[i];
+        i += 1;
+    }
+}
+
+// The record of each array, and where slots and nodes begin and how many there are.
+pub fn lay_out(s: &[u8], at: Layout) -> [u32; 69]
+    requires { ⌜ Passed (now s) ⌝ }
+    requires { ⌜ at ≡ layoutOf (now s) ⌝ }
+    ensures { λ r. ⌜ PlacesOf (now (s .entry)) r ⌝ }
+{
+    let arrays = array_records(s, at);
+    let mut places = [0u32; 69];
+    let mut a = 0;
+    while a < 64 {
+        places[a] = arrays[a] as u32;
+        a += 1;
+    }
+    let slots = at.slots;
+    let nodes = at.nodes;
+    let tally = at.tally;
+    let slot_count = at.arrays - slots;
+    let node_count = at.constraints - nodes;
+    places[64] = slots as u32;
+    places[65] = slot_count as u32;
+    places[66] = tally as u32;
+    places[67] = nodes as u32;
+    places[68] = node_count as u32;
+    places
+}
