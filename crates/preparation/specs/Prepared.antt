@@ -3,9 +3,11 @@
 use mathlib.Core.Path.{_≡_}
 use Prim.Native.Nat.{ℕ, _-_, _<_}
 use mathlib.Core.List.{List, _++_}
+use mathlib.Core.Option.{none}
 use lib.ListN.{length, getD, replicate}
 use Rattle.numbers.specs.Limits.{mostBytes, mostArrays}
 use Rattle.answers.specs.Sections.{slotsAt, nodesAt, slotCount, arrayRecords, nodeCount}
+use Rattle.answers.specs.Check.{checkFault}
 use Rattle.evaluator.specs.Nodes.{nodesFrom}
 use Rattle.evaluator.specs.Walks as walks
 use Rattle.evaluator.specs.Walks.{slotsFrom}
@@ -23,3 +25,9 @@ pub record PlacesOf (bs places : List ℕ) : Type 0 where
   pub array-count : walks.arrayCount places ≡ length (arrayRecords bs)
   pub nodes : nodesFrom places ≡ nodesAt bs
   pub node-count : walks.nodeCount places ≡ nodeCount bs
+
+-- a table in which the check finds no fault, made ready
+pub record Prepared (bs bytes places : List ℕ) : Type 0 where
+  pub sound : checkFault bs ≡ none
+  pub copied : bytes ≡ padded bs
+  pub placed : PlacesOf bs places

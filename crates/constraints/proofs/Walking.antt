@@ -1,0 +1,188 @@
+-- The walk over the constraints, one after the other.
+-- Assumes nothing.
+use mathlib.Core.Path.{_≡_, refl, sym, ap, ap₂, _∙_}
+use mathlib.Core.Logic.{⊎-elim}
+use Prim.Native.Nat.{ℕ, zero, suc, _+_, _-_, _≤_, _<_}
+use native.Mathlib.Numerals.{add-one}
+use native.Mathlib.Omega.{arith}
+use mathlib.Core.Bool.{Bool, true, false, _&&_}
+use mathlib.Core.List.{List, [], _∷_, _++_, map, map-append}
+use mathlib.Core.Option.{Option, none, some}
+use lib.Dec.{eqb}
+use lib.IntN.{pos, natAbs}
+use lib.ListN.{length, take, set, replicate, length-set, length-replicate}
+use lib.Seq.{take-suc-set}
+use Rattle.numbers.proofs.Naturals.{lt-or-ge}
+use Rattle.language.specs.Readings.{Reading}
+use Rattle.language.specs.Tables.{treeB}
+use Rattle.language.specs.Meaning.{Assignment, calmB, valueB}
+use Rattle.table.specs.Records.{recordCount, xAt}
+use Rattle.answers.specs.Sections.{listed, constraintsAt, restAt, nodeCount, constraintCount, declarations, nodeTrees, constraints}
+use Rattle.answers.specs.Check.{checkFault}
+use Rattle.answers.specs.Answers.{unset, valueOfConstraint, allCalm, verdict, verdicts, allOne}
+use Rattle.answers.proofs.Listed.{length-listed}
+use Rattle.answers.proofs.NodeTrees.{length-rows}
+use Rattle.answers.proofs.ConstraintsFit.{ConstraintPassed, none→ConstraintPassed}
+use Rattle.answers.proofs.Passed.{Passed, checkFault≡none→Passed, Passed→SectionsOrdered, few-records}
+use Rattle.evaluator.specs.declared.values.Walked.{Walked}
+use Rattle.evaluator.specs.Values.{ofCalm, ofTruth, truthOf}
+use Rattle.evaluator.specs.Walks as walks
+use Rattle.evaluator.specs.Walks.{Laid, truthWalked, truthAt}
+use Rattle.preparation.specs.Prepared.{Prepared}
+use Rattle.preparation.proofs.Laid.{prepared-laid, truthAt-prepared}
+use Rattle.constraints.specs.declared.Verdicts.{Verdicts}
+use Rattle.constraints.specs.Verdicts.{byteOf, walkedAt, ConstraintAt, VerdictsOf}
+
+-- ---- tests
+
+&&-true : (a : Bool) → (a && true) ≡ a
+&&-true true = refl
+&&-true false = refl
+
+&&-false : (a : Bool) → (a && false) ≡ false
+&&-false true = refl
+&&-false false = refl
+
+clash : {A : Type 0} → true ≡ false → A
+clash e = let z : _≡_ {A = ℕ} 0 1 = cc in absurd (omega arith)
+
+&&-assoc : (a b c : Bool) → (a && (b && c)) ≡ ((a && b) && c)
+&&-assoc true b c = refl
+&&-assoc false b c = refl
+
+-- ---- one constraint
+
+module _ (table : List ℕ) (sound : checkFault table ≡ none) where
+  passed : Passed table
+  passed = checkFault≡none→Passed table sound
+
+  -- A constraint's record is one of the table's,
+  pub constraint-within : {p : ℕ} → ConstraintAt table p → p < recordCount table
+  constraint-within c = omega (arith, c .before, passed .no-rest)
+
+  -- and it names a node.
+  pub constraint-names : {p : ℕ} → ConstraintAt table p → natAbs (xAt table p) < nodeCount table
+  unfolding constraintCount
+  constraint-names {p} c =
+      let i : ℕ = p - constraintsAt table in
+      let e : constraintsAt table + i ≡ p = omega (arith, c .from) in
+      let one : ConstraintPassed table (constraintsAt table + i) = none→ConstraintPassed table _ (passed .constraints-passed i (omega (arith, c .from, c .before))) in
+      let named : ConstraintPassed table p = rw e at one in
+      omega (arith, named .node .earlier, length-rows table)
+
+  -- There are as many as fit.
+  pub few-constraints : constraintCount table ≤ 5000
+  few-constraints = omega (arith, Passed→SectionsOrdered table passed, few-records table (passed .few-bytes))
+
+module _ {table bytes places : List ℕ} (ready : Prepared table bytes places) where
+  -- The walk may be taken.
+  pub ready-laid : Laid bytes places
+  ready-laid = rw (ready .copied) (prepared-laid table places (checkFault≡none→Passed table (ready .sound)) (ready .placed))
+
+  -- It gives what the table says.
+  pub ready-walked : (ρ : Reading) (α : Assignment) (k : ℕ) → truthAt ρ bytes places α (replicate 16 (pos 0)) k ≡ walkedAt table ρ α k
+  unfolding walkedAt
+  ready-walked ρ α k = rw (ready .copied) (truthAt-prepared table places (checkFault≡none→Passed table (ready .sound)) (ready .placed) ρ α k)
+
+-- ---- all constraints
+
+module _ (table : List ℕ) (ρ : Reading) (α : Assignment) where
+  -- the node of constraint i, whether its walk is calm, and its byte
+  abbrev pub nodeAt : ℕ → ℕ
+  nodeAt i = natAbs (xAt table (constraintsAt table + i))
+
+  abbrev pub calmAt : ℕ → Bool
+  calmAt k = calmB ρ (declarations table) α (treeB (nodeTrees table) k) unset
+
+  abbrev pub byteAt : ℕ → ℕ
+  byteAt k = verdict table ρ α (valueOfConstraint table ρ α k)
+
+  -- what holds when i constraints have been walked
+  pub record Walked-so-far (bytes : List ℕ) (all : Bool) (i : ℕ) : Type 0 where
+    pub sized : length bytes ≡ 5000
+    pub calm : allCalm table ρ α (listed i nodeAt) ≡ true
+    pub written : take i bytes ≡ map byteAt (listed i nodeAt)
+    pub all-one : all ≡ allOne table ρ α (map byteAt (listed i nodeAt))
+
+  -- ---- one more
+
+  allCalm-snoc : (ks : List ℕ) (k : ℕ) → allCalm table ρ α (ks ++ (k ∷ [])) ≡ (allCalm table ρ α ks && calmAt k)
+  unfolding allCalm
+  allCalm-snoc [] k = &&-true (calmAt k)
+  allCalm-snoc (j ∷ ks) k = ap (λ (b : Bool). calmAt j && b) (allCalm-snoc ks k) ∙ &&-assoc (calmAt j) (allCalm table ρ α ks) (calmAt k)
+
+  allOne-snoc : (vs : List ℕ) (v : ℕ) → allOne table ρ α (vs ++ (v ∷ [])) ≡ (allOne table ρ α vs && eqb v 1)
+  unfolding allOne
+  allOne-snoc [] v = &&-true (eqb v 1)
+  allOne-snoc (w ∷ vs) v = ap (λ (b : Bool). eqb w 1 && b) (allOne-snoc vs v) ∙ &&-assoc (eqb w 1) (allOne table ρ α vs) (eqb v 1)
+
+  -- what a walk says of its constraint
+  walked-calm : (k : ℕ) {w : Walked} → w ≡ walkedAt table ρ α k → w .calm ≡ calmAt k
+  unfolding walkedAt truthWalked
+  walked-calm k e = ap (λ (w : Walked). w .calm) e ∙ by-calm (calmAt k) _
+    where
+      by-calm : (b : Bool) (v : _) → ofCalm b v .calm ≡ b
+      by-calm true v = refl
+      by-calm false v = refl
+
+  walked-byte : (k : ℕ) {w : Walked} → w ≡ walkedAt table ρ α k → w .calm ≡ true → byteOf (truthOf (w .value)) ≡ byteAt k
+  unfolding walkedAt truthWalked valueOfConstraint verdict
+  walked-byte k e c = ap (λ (w : Walked). byteOf (truthOf (w .value))) e ∙ by-calm (calmAt k) (valueOfConstraint table ρ α k) (sym (walked-calm k e) ∙ c)
+    where
+      by-calm : (b : Bool) (v : Option Bool) → b ≡ true → byteOf (truthOf (ofCalm b (ofTruth v) .value)) ≡ verdict table ρ α v
+      by-calm true none q = refl
+      by-calm true (some true) q = refl
+      by-calm true (some false) q = refl
+      by-calm false v q = let z : _≡_ {A = ℕ} 0 1 = cc in absurd (omega arith)
+
+  pub walked-none : Walked-so-far (replicate 5000 0) true 0
+  unfolding listed allCalm allOne
+  walked-none = record { sized = length-replicate {A = ℕ} 5000 0; calm = refl; written = refl; all-one = refl }
+
+  pub walked-more : {bytes : List ℕ} {all : Bool} {i p v : ℕ} {w : Walked} → Walked-so-far bytes all i → i < 5000 → p ≡ constraintsAt table + i
+      → w ≡ walkedAt table ρ α (natAbs (xAt table p)) → w .calm ≡ true → v ≡ byteOf (truthOf (w .value))
+      → Walked-so-far (set bytes i v) (all && eqb v 1) (i + 1)
+  unfolding listed
+  walked-more {bytes} {all} {i} {p} {v} s l q e c f =
+      let at : walkedAt table ρ α (natAbs (xAt table p)) ≡ walkedAt table ρ α (nodeAt i) = ap (λ j. walkedAt table ρ α (natAbs (xAt table j))) q in
+      let b : v ≡ byteAt (nodeAt i) = f ∙ walked-byte (nodeAt i) (e ∙ at) c in
+      record {
+        sized = length-set bytes i v ∙ s .sized;
+        calm = rw (add-one i, allCalm-snoc (listed i nodeAt) (nodeAt i), s .calm) (sym (walked-calm (nodeAt i) (e ∙ at)) ∙ c);
+        written = rw (add-one i, take-suc-set bytes i v (omega (arith, s .sized)), s .written, b) (sym (map-append byteAt (listed i nodeAt) (nodeAt i ∷ [])));
+        all-one = rw (add-one i, map-append, allOne-snoc (map byteAt (listed i nodeAt)) (byteAt (nodeAt i)), s .all-one, b);
+      }
+
+  -- ---- the end
+
+  -- A constraint that is not calm leaves the table not calm,
+  calm-not : (n i : ℕ) → i < n → calmAt (nodeAt i) ≡ false → allCalm table ρ α (listed n nodeAt) ≡ false
+  unfolding listed
+  calm-not zero i l e = absurd (omega arith)
+  calm-not (suc n) i l e = allCalm-snoc (listed n nodeAt) (nodeAt n) ∙ ⊎-elim (λ m. before (calm-not n i m e)) (λ m. last (omega arith)) (lt-or-ge i n)
+    where
+      before : allCalm table ρ α (listed n nodeAt) ≡ false → (allCalm table ρ α (listed n nodeAt) && calmAt (nodeAt n)) ≡ false
+      before q = rw q
+
+      last : i ≡ n → (allCalm table ρ α (listed n nodeAt) && calmAt (nodeAt n)) ≡ false
+      last q = rw (← q, e) (&&-false (allCalm table ρ α (listed i nodeAt)))
+
+  pub walked-beyond : {i p : ℕ} {w : Walked} {r : Verdicts} → i < constraintCount table → p ≡ constraintsAt table + i
+      → w ≡ walkedAt table ρ α (natAbs (xAt table p)) → w .calm ≡ false → r .calm ≡ false → VerdictsOf table ρ α r
+  unfolding constraints
+  walked-beyond {i} l q e c f =
+      record {
+        calm = f ∙ sym (calm-not (constraintCount table) i l (ap (λ j. calmAt (natAbs (xAt table j))) (sym q) ∙ sym (walked-calm _ e) ∙ c));
+        bytes = λ t. clash (sym t ∙ f);
+        all = λ t. clash (sym t ∙ f);
+      }
+
+  -- and where all are, they are the table's.
+  pub walked-all : {all : Bool} {i : ℕ} {r : Verdicts} → Walked-so-far (r .bytes) all i → i ≡ constraintCount table → r .calm ≡ true → r .all ≡ all → VerdictsOf table ρ α r
+  unfolding constraints verdicts
+  walked-all {i = i} s q c a =
+      record {
+        calm = c ∙ sym (rw q at (s .calm));
+        bytes = λ t. rw length-listed (rw q at (s .written));
+        all = λ t. a ∙ rw q at (s .all-one);
+      }

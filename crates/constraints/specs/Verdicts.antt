@@ -1,0 +1,37 @@
+-- What one assignment makes of a table's constraints, as the code has it.
+-- Assumes nothing.
+use mathlib.Core.Path.{_≡_}
+use Prim.Native.Nat.{ℕ, _≤_, _<_}
+use mathlib.Core.Bool.{Bool, true, false}
+use mathlib.Core.List.{List}
+use mathlib.Core.Option.{Option, none, some}
+use lib.ListN.{length, take}
+use Rattle.language.specs.Readings.{Reading}
+use Rattle.language.specs.Tables.{treeB}
+use Rattle.language.specs.Meaning.{Assignment}
+use Rattle.answers.specs.Sections.{constraintsAt, restAt, declarations, nodeTrees, constraints}
+use Rattle.answers.specs.Answers.{unset, allCalm, verdicts, allOne}
+use Rattle.evaluator.specs.declared.values.Walked.{Walked}
+use Rattle.evaluator.specs.Walks.{truthWalked}
+use Rattle.constraints.specs.declared.Verdicts.{Verdicts}
+
+-- "one byte per constraint (0 false, 1 true, 2 undefined)"
+abbrev pub byteOf : Option Bool → ℕ
+byteOf (some false) = 0
+byteOf (some true) = 1
+byteOf none = 2
+
+-- what the walk over node k gives, as a constraint
+unfoldable pub walkedAt : List ℕ → Reading → Assignment → ℕ → Walked
+walkedAt table ρ α k = truthWalked ρ (declarations table) α (treeB (nodeTrees table) k) unset
+
+-- p is the record of a constraint
+pub record ConstraintAt (table : List ℕ) (p : ℕ) : Type 0 where
+  pub from : constraintsAt table ≤ p
+  pub before : p < restAt table
+
+-- Whether the walk over all constraints stayed within the limit; and if so, their bytes from byte 0 on and whether all are 1.
+pub record VerdictsOf (table : List ℕ) (ρ : Reading) (α : Assignment) (r : Verdicts) : Type 0 where
+  pub calm : r .calm ≡ allCalm table ρ α (constraints table)
+  pub bytes : r .calm ≡ true → take (length (constraints table)) (r .bytes) ≡ verdicts table ρ α
+  pub all : r .calm ≡ true → r .all ≡ allOne table ρ α (verdicts table ρ α)

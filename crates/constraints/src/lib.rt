@@ -1,0 +1,91 @@
+// What one assignment makes of the constraints of a table, with no lent output.
+ghost use mathlib.Core.Path.{_≡_};
+ghost use lib.IntN.{natAbs};
+ghost use Rattle.table.specs.Records.{xAt};
+ghost use Rattle.layout.specs.Places.{layoutOf};
+ghost use Rattle.evaluator.specs.Values.{readingOf, truthOf};
+ghost use Rattle.preparation.specs.Prepared.{Prepared};
+ghost use Rattle.constraints.specs.Verdicts.{byteOf, walkedAt, ConstraintAt, VerdictsOf};
+use evaluator::values::Reading;
+use evaluator::values::Value;
+use evaluator::values::Walked;
+use evaluator::walk::constraint;
+use layout::Layout;
+use layout::fields::name_x;
+use table::NodeNumber;
+
+// One byte per constraint from byte 0 on, whether no integer node met was beyond the limit, and whether all bytes are 1.
+// Past the limit only that counts.
+pub struct Verdicts {
+    pub bytes: [u8; 5000],
+    pub calm: bool,
+    pub all: bool,
+}
+
+// "0 false, 1 true, 2 undefined"
+fn verdict_byte(value: Value) -> u8
+    ensures { λ r. ⌜ r ≡ byteOf (truthOf value) ⌝ }
+{
+    match value {
+        Value::Integer(_) => 2,
+        Value::Truth(b) => { if b { 1 } else { 0 } }
+        Value::Undefined => 2,
+    }
+}
+
+// The value of the constraint of record p for an assignment under a reading.
+pub fn constraint_value(
+    s: &[u8],
+    t: &[u8; 60000],
+    places: &[u32; 69],
+    assignment: &[i32],
+    reading: Reading,
+    p: usize,
+) -> Walked
+    requires { ⌜ Prepared (now s) (now t) (now places) ⌝ }
+    requires { ⌜ ConstraintAt (now s) p ⌝ }
+    ensures { λ r. ⌜ r ≡ walkedAt (now (s .entry)) (readingOf reading) (now (assignment .entry)) (natAbs (xAt (now (s .entry)) p)) ⌝ }
+{
+    let n = name_x(s, p);
+    constraint(t, places, assignment, reading, NodeNumber(n as u32))
+}
+
+// The values of all constraints for an assignment under a reading. It stops at the first number beyond the limit.
+pub fn constraint_values(
+    s: &[u8],
+    at: Layout,
+    t: &[u8; 60000],
+    places: &[u32; 69],
+    assignment: &[i32],
+    reading: Reading,
+) -> Verdicts
+    requires { ⌜ Prepared (now s) (now t) (now places) ⌝ }
+    requires { ⌜ at ≡ layoutOf (now s) ⌝ }
+    ensures { λ r. ⌜ VerdictsOf (now (s .entry)) (readingOf reading) (now (assignment .entry)) r ⌝ }
+{
+    let mut bytes = [0u8; 5000];
+    let mut all = true;
+    let first = at.constraints;
+    let count = at.rest - first;
+    let mut i = 0;
+    while i < count {
+        let walked = constraint_value(s, t, places, assignment, reading, first + i);
+        if !walked.calm {
+            return Verdicts {
+                bytes: bytes,
+                calm: false,
+                all: false,
+            };
+        }
+        let value = walked.value;
+        let b = verdict_byte(value);
+        bytes[i] = b;
+        all = all & (b == 1);
+        i += 1;
+    }
+    Verdicts {
+        bytes: bytes,
+        calm: true,
+        all: all,
+    }
+}
