@@ -1,0 +1,6 @@
+pub mod Demands
+pub mod EveryNode
+pub mod Numbers
+pub mod Outcomes
+pub mod TotalTable
+pub mod Verdicts

@@ -1,0 +1,1 @@
+// Statements and laws alone: the page of the three demands stands in specs/, its proofs in proofs/.
