@@ -3,4 +3,5 @@ pub mod EveryNode
 pub mod Numbers
 pub mod Outcomes
 pub mod TotalTable
+pub mod Useless
 pub mod Verdicts
