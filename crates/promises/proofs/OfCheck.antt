@@ -1,0 +1,58 @@
+-- The function `check`: it asks nothing and keeps its contract, which is the page's promise; so demand 1 holds of it, and its result is the only
+-- one. `κs` are the lifetimes of a call, `args` what it is given, `after` that at the end, and `Learnt` is what the contract says of them.
+-- Assumes nothing.
+use mathlib.Core.Path.{_≡_, refl, sym, ap, _∙_}
+use mathlib.Core.Bool.{cond}
+use lib.Dec.{eqb}
+use contract.Lifetimes.{Lfts}
+use denote.Ref.{now}
+use Rattle.answers.specs.Answers.{Answer, done, refused}
+use Rattle.verdict.specs.Results.{answerOf}
+use Rattle.verdict.specs.declared.Check.{Check}
+use Rattle.verdict.specs.declared.Check.the-variants.{Sound, BadLength, Misplaced, NotAllowed, NamesNothing, WrongType, OpenConstraint}
+use Rattle.checker.proofs.check.Met.{met}
+use Rattle.checker.proofs.check.Reads.{Asked, Learnt}
+use Rattle.checker.proofs.check.Statement.{statement}
+use Rattle.demands.specs.Demands.{Checks, checkOrder, Answered}
+use Rattle.demands.proofs.Demands.{demand-1}
+
+-- The case of each answer.
+unfoldable pub checkOf : Answer → Check
+checkOf a =
+    cond (eqb (a .number) 1) BadLength
+    (cond (eqb (a .number) 2) (Misplaced (a .at))
+    (cond (eqb (a .number) 3) (NotAllowed (a .at))
+    (cond (eqb (a .number) 4) (NamesNothing (a .at))
+    (cond (eqb (a .number) 5) (WrongType (a .at)) (cond (eqb (a .number) 6) (OpenConstraint (a .at)) Sound)))))
+
+-- Different cases have different answers.
+pub checkOf-answerOf : (c : Check) → checkOf (answerOf c) ≡ c
+unfolding checkOf answerOf refused done
+checkOf-answerOf Sound = refl
+checkOf-answerOf BadLength = refl
+checkOf-answerOf (Misplaced k) = refl
+checkOf-answerOf (NotAllowed k) = refl
+checkOf-answerOf (NamesNothing k) = refl
+checkOf-answerOf (WrongType k) = refl
+checkOf-answerOf (OpenConstraint k) = refl
+
+-- The function meets its contract: it ends, for every input that meets what it asks,
+pub kept : {M : Type 1} → statement M
+kept = met
+
+module _ (κs : Lfts 1) (args : _) where
+  -- which is nothing,
+  pub asks-nothing : Asked κs args
+  asks-nothing = tt
+
+  -- and what it gives is what the page promises.
+  pub promised : (r : _) (after : _) → Learnt κs args r after → Checks (now (args .0)) (answerOf r)
+  promised r after h = h
+
+  -- Any two results are equal.
+  pub one-result : (r q : _) (after later : _) → Learnt κs args r after → Learnt κs args q later → r ≡ q
+  one-result r q after later h g = sym (checkOf-answerOf r) ∙ ap checkOf (h ∙ sym g) ∙ checkOf-answerOf q
+
+  -- Demand 1.
+  pub answered : (r : _) (after : _) → Learnt κs args r after → Answered 6 (checkOrder (now (args .0))) (answerOf r)
+  answered r after h = demand-1 .check (now (args .0)) (answerOf r) h

@@ -1,0 +1,1 @@
+// Laws alone: the public functions and the page of the three demands.
