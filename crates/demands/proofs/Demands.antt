@@ -103,6 +103,7 @@ outcome-evaluated choice table α lent =
     record {
       values = λ i l. getD-written (verdicts table ρ α) lent i (rw as-many l) ∙ getD-verdicts table ρ α i l;
       rest-as-it-was = rw (← as-many) (drop-written (verdicts table ρ α) lent);
+      one-byte-each = as-many;
       steps = refl;
       all-true = allOne-verdicts table ρ α;
     }

@@ -1,5 +1,6 @@
 -- The page of the three demands: the promise of each public function, and demands 1, 2 and 3, each in the user's words and then as a formal
--- statement about every result that the promise allows. The proofs are in proofs/Demands.antt. What the statements cite:
+-- statement about every result that the promise allows. The proofs are in proofs/Demands.antt; that useless versions are shut out is in
+-- proofs/Useless.antt; that the functions of the code keep these promises and ask nothing is in the crate `promises`. What the statements cite:
 -- language/specs (the readings, values, steps), rules/specs (intervals, the rules), answers/specs (the check, the three answers, the listing).
 -- Assumes nothing.
 use mathlib.Core.Path.{_≡_}
@@ -126,6 +127,7 @@ pub record Evaluated (table : List ℕ) (ρ : Reading) (α : Assignment) (lent :
   pub values : (i : ℕ) → i < length (constraints table)
       → getD (o .lent) i 0 ≡ verdict table ρ α (valueOfConstraint table ρ α (constraintAt table i))
   pub rest-as-it-was : drop (length (constraints table)) (o .lent) ≡ drop (length (constraints table)) lent
+  pub one-byte-each : o .answer .length-written ≡ length (constraints table)
   -- "The total is the sum over all constraints, shared nodes counted each time."
   pub steps : o .answer .steps ≡ totalCost table
   -- "whether all are 1 (yes where there is none)"
