@@ -1,0 +1,4 @@
+pub mod Codes
+pub mod Constraints
+pub mod Ends
+pub mod Known

@@ -1,0 +1,94 @@
+// The nodes and the constraints of the new table.
+ghost use mathlib.Core.Path.{_≡_};
+ghost use mathlib.Core.List.{_++_};
+ghost use mathlib.Core.Option.{none};
+ghost use Prim.Native.Nat.{_*_, _≤_, _<_};
+ghost use lib.ListN.{length};
+ghost use lib.Seq.{sets};
+ghost use Rattle.numbers.specs.Limits.{mostBytes};
+ghost use Rattle.table.specs.Records.{recordSize};
+ghost use Rattle.answers.specs.Sections.{nodesAt, constraints};
+ghost use Rattle.answers.specs.Check.{checkFault};
+ghost use Rattle.answers.specs.Answers.{translated, newNodes, newConstraints, newCount};
+ghost use Rattle.layout.specs.Places.{layoutOf};
+ghost use Rattle.translator.specs.Readings.{meant};
+ghost use Rattle.translator.specs.Plans.{readingNumber};
+use crate::constraints::put_constraints;
+use crate::words::node_words;
+use kinds::x_codes;
+use layout::Layout;
+use layout::array_records;
+use layout::fields::kind_at;
+use translator::Reading;
+use translator::rows::put_rows;
+use translator::rows::word_of;
+use translator::tables::PLANS;
+use translator::tables::ROWS;
+
+pub mod constraints;
+pub mod words;
+
+// Where the plans of a reading begin.
+fn first_plan(reading: Reading) -> usize
+    ensures { λ r. ⌜ r ≡ 124 * readingNumber (meant reading) ⌝ }
+    ensures { λ r. ⌜ r < 249 ⌝ }
+{
+    match reading {
+        Reading::Strict => 0,
+        Reading::Kleene => 124,
+        Reading::Relational => 248,
+    }
+}
+
+fn counted(b: u8) -> usize
+    ensures { λ r. ⌜ r ≡ b ⌝ }
+{
+    b as usize
+}
+
+fn wide(b: u8) -> u32
+    ensures { λ r. ⌜ r ≡ b ⌝ }
+{
+    b as u32
+}
+
+// Writes the new nodes and constraints behind the declarations of the new table.
+pub fn put_nodes_and_constraints(s: &[u8], at: Layout, reading: Reading, out: &mut [u8])
+    requires { ⌜ checkFault (now s) ≡ none ⌝ }
+    requires { ⌜ at ≡ layoutOf (now s) ⌝ }
+    requires { ⌜ recordSize * newCount (now s) (meant reading) ≤ length (now out) ⌝ }
+    requires { ⌜ recordSize * newCount (now s) (meant reading) ≤ mostBytes ⌝ }
+    ensures { λ r. ⌜ now (out .exit) ≡ sets (now (out .entry)) (recordSize * nodesAt (now (s .entry))) (newNodes (now (s .entry)) (meant reading) (translated (now (s .entry)) (meant reading) .rows) ++ newConstraints (now (s .entry)) (meant reading) (constraints (now (s .entry)))) ⌝ }
+{
+    let plans = PLANS;
+    let rows = ROWS;
+    let codes = x_codes();
+    let arrays = array_records(s, at);
+    let first = first_plan(reading);
+    let mut firsts = [0u32; 5000];
+    let mut seconds = [0u32; 5000];
+    let nodes = at.nodes;
+    let count = at.constraints - nodes;
+    let mut next = 0u32;
+    let mut n = 0;
+    while n < count {
+        let kind = kind_at(s, nodes + n);
+        let plan = first + 4 * counted(kind);
+        let words = node_words(s, nodes + n, &codes, &arrays, &firsts, &seconds);
+        put_rows(
+            out,
+            12 * (nodes + next as usize),
+            &rows,
+            counted(plans[plan]),
+            counted(plans[plan + 1]),
+            &words,
+            next,
+            kind,
+        );
+        firsts[n] = word_of(&words, next, plans[plan + 2]);
+        seconds[n] = word_of(&words, next, plans[plan + 3]);
+        next += wide(plans[plan + 1]);
+        n += 1;
+    }
+    put_constraints(s, at, &firsts, nodes + next as usize, out);
+}
