@@ -1,0 +1,175 @@
+// The public translation: for every choice, byte string and buffer the table without undefined parts, or the refusal.
+ghost use mathlib.Core.Path.{_≡_};
+ghost use mathlib.Core.Bool.{_&&_};
+ghost use mathlib.Core.List.{_++_};
+ghost use mathlib.Core.Option.{none};
+ghost use Prim.Native.Nat.{_-_, _*_, _≤_};
+ghost use lib.Dec.{leb};
+ghost use lib.ListN.{length, take, drop};
+ghost use lib.Seq.{sets};
+ghost use Rattle.numbers.specs.Limits.{mostBytes};
+ghost use Rattle.table.specs.Records.{recordSize};
+ghost use Rattle.answers.specs.Sections.{nodesAt};
+ghost use Rattle.answers.specs.Check.{checkFault};
+ghost use Rattle.answers.specs.Answers as Answers;
+ghost use Rattle.answers.specs.Answers.{readingOf, newCount, translation, translateUnder};
+ghost use Rattle.verdict.specs.Results.{isNone};
+ghost use Rattle.bounds.specs.Kept.{refusalOf};
+ghost use Rattle.layout.specs.Passed.{Passed};
+ghost use Rattle.layout.specs.Places.{layoutOf};
+ghost use Rattle.translator.specs.Readings.{meant};
+ghost use Rattle.translation.specs.Choices.{chosen};
+ghost use Rattle.translation.specs.Results.{recordBeyond, outcomeOf};
+ghost use Rattle.translation.specs.Fronts.{front};
+use bounds::Bounds;
+use bounds::check_bounds;
+use layout::Layout;
+use layout::find_sections;
+use table::RECORD_SIZE;
+use translator::Reading;
+use translator::new_records;
+use translator::writer::put_record;
+use verdict::Check;
+use verdict::is_sound;
+use writing::put_nodes_and_constraints;
+
+const MOST_BYTES: usize = 60_000;
+
+// What a translation answers. Each refusal has the record that it is about, where there is one.
+pub enum Translation {
+    // so many bytes are written
+    Done(u32),
+    // "choice not 1 to 3"
+    BadChoice,
+    // what the check says
+    Unsound(Check),
+    // "first interval beyond ±2,000,000,000"
+    Beyond(u32),
+    // "output longer than the buffer, or a translation beyond 60,000 bytes"
+    NoRoom,
+}
+
+// The reading that a choice asks for.
+enum Choice {
+    Under(Reading),
+    Nothing,
+}
+
+// "Choice 1 strict, 2 Kleene, 3 relational."
+fn reading_of(choice: u32) -> Choice
+    ensures { λ r. ⌜ chosen r ≡ readingOf choice ⌝ }
+{
+    match choice {
+        1 => Choice::Under(Reading::Strict),
+        2 => Choice::Under(Reading::Kleene),
+        3 => Choice::Under(Reading::Relational),
+        _ => Choice::Nothing,
+    }
+}
+
+// Copies the bytes from `from` up to `end` to the same places.
+fn copy_part(s: &[u8], from: usize, end: usize, out: &mut [u8])
+    requires { ⌜ from ≤ end ⌝ }
+    requires { ⌜ end ≤ length (now s) ⌝ }
+    requires { ⌜ end ≤ length (now out) ⌝ }
+    ensures { λ r. ⌜ now (out .exit) ≡ sets (now (out .entry)) from (take (end - from) (drop from (now (s .entry)))) ⌝ }
+{
+    let mut i = from;
+    while i < end {
+        out[i] = s[i];
+        i += 1;
+    }
+}
+
+// Writes HD with the new count, and the declarations.
+fn put_declarations(s: &[u8], at: Layout, records: u32, out: &mut [u8])
+    requires { ⌜ Passed (now s) ⌝ }
+    requires { ⌜ at ≡ layoutOf (now s) ⌝ }
+    requires { ⌜ recordSize * nodesAt (now s) ≤ length (now out) ⌝ }
+    ensures { λ r. ⌜ now (out .exit) ≡ sets (now (out .entry)) 0 (front (now (s .entry)) records) ⌝ }
+{
+    put_record(out, 0, b'H', b'D', 1, records, 0);
+    copy_part(s, RECORD_SIZE, RECORD_SIZE * at.nodes, out);
+}
+
+// Writes the whole new table.
+fn write(table: &[u8], at: Layout, reading: Reading, records: u32, out: &mut [u8])
+    requires { ⌜ checkFault (now table) ≡ none ⌝ }
+    requires { ⌜ at ≡ layoutOf (now table) ⌝ }
+    requires { ⌜ records ≡ newCount (now table) (meant reading) ⌝ }
+    requires { ⌜ recordSize * records ≤ length (now out) ⌝ }
+    requires { ⌜ recordSize * records ≤ mostBytes ⌝ }
+    ensures { λ r. ⌜ now (out .exit) ≡ translation (now (table .entry)) (meant reading) ++ drop (length (translation (now (table .entry)) (meant reading))) (now (out .entry)) ⌝ }
+{
+    put_declarations(table, at, records, out);
+    put_nodes_and_constraints(table, at, reading, out);
+}
+
+// "output longer than the buffer, or a translation beyond 60,000 bytes": neither
+fn has_room(records: usize, room: usize) -> bool
+    ensures { λ r. ⌜ r ≡ (leb (recordSize * records) room && leb (recordSize * records) mostBytes) ⌝ }
+{
+    (records <= room / RECORD_SIZE) & (records <= MOST_BYTES / RECORD_SIZE)
+}
+
+// Every interval is within the limit.
+fn is_within(bounds: Bounds) -> bool
+    ensures { λ r. ⌜ r ≡ isNone (refusalOf bounds) ⌝ }
+{
+    match bounds {
+        Bounds::Within => true,
+        Bounds::Beyond(_) => false,
+    }
+}
+
+// The record of the node whose interval is beyond the limit; 0 where there is none.
+fn record_beyond(bounds: Bounds) -> usize
+    ensures { λ r. ⌜ r ≡ recordBeyond bounds ⌝ }
+{
+    match bounds {
+        Bounds::Within => 0,
+        Bounds::Beyond(p) => p,
+    }
+}
+
+// A table that passes the check: the size first, then the refusals, then the writing.
+fn translate_sound(reading: Reading, table: &[u8], out: &mut [u8]) -> Translation
+    requires { ⌜ checkFault (now table) ≡ none ⌝ }
+    ensures { λ r. ⌜ outcomeOf r (now (out .exit)) ≡ translateUnder (now (table .entry)) (meant reading) (now (out .entry)) ⌝ }
+{
+    let at = find_sections(table);
+    let records = new_records(table, at, reading);
+    let room = has_room(records, out.len());
+    let bounds = check_bounds(table, at);
+    let within = is_within(bounds);
+    if !within {
+        return Translation::Beyond(record_beyond(bounds) as u32);
+    }
+    if !room {
+        return Translation::NoRoom;
+    }
+    write(table, at, reading, records as u32, out);
+    Translation::Done((RECORD_SIZE * records) as u32)
+}
+
+// A translation under a reading: what the check refuses comes before all else.
+fn translate_under(reading: Reading, table: &[u8], out: &mut [u8]) -> Translation
+    ensures { λ r. ⌜ outcomeOf r (now (out .exit)) ≡ translateUnder (now (table .entry)) (meant reading) (now (out .entry)) ⌝ }
+{
+    let check = checker::check(table);
+    if is_sound(check) {
+        translate_sound(reading, table, out)
+    } else {
+        Translation::Unsound(check)
+    }
+}
+
+// The table under the choice's reading, written from byte 0 of `out`; or the refusal, which changes no byte. For every input.
+pub fn translate(choice: u32, table: &[u8], out: &mut [u8]) -> Translation
+    ensures { λ r. ⌜ outcomeOf r (now (out .exit)) ≡ Answers.translate choice (now (table .entry)) (now (out .entry)) ⌝ }
+{
+    match reading_of(choice) {
+        Choice::Under(reading) => translate_under(reading, table, out),
+        Choice::Nothing => Translation::BadChoice,
+    }
+}
