@@ -25,7 +25,7 @@ one-answer =
       check = λ table a b p q. p ∙ sym q;
       evaluate = λ choice table α budget lent o o′ p q. p ∙ sym q;
       translate = λ choice table lent o o′ p q. p ∙ sym q;
-      list = λ input lent after other p q. p ∙ sym q;
+      list = λ input lent long far after other p q. (p .text-length ∙ sym (q .text-length), p .text ∙ sym (q .text));
     }
 
 -- ---- demand 1

@@ -37,9 +37,10 @@ Evaluates choice table α budget lent o = o ≡ Answers.evaluate choice table α
 abbrev pub Translates : ℕ → List ℕ → List ℕ → Outcome → Type 0
 Translates choice table lent o = o ≡ Answers.translate choice table lent
 
--- the listing's writer: the text from byte 0 on, and the rest as it was
-abbrev pub Lists : List ℕ → List ℕ → List ℕ → Type 0
-Lists input lent after = after ≡ listing input ++ drop (length (listing input)) lent
+-- the listing's writer: how long the text is, the text from byte 0 on, and the rest as it was
+pub record Lists (input lent : List ℕ) (long : ℕ) (after : List ℕ) : Type 0 where
+  pub text-length : long ≡ length (listing input)
+  pub text : after ≡ listing input ++ drop (length (listing input)) lent
 
 -- "any two results allowed by it are equal"
 pub record OneAnswer : Type 0 where
@@ -47,7 +48,7 @@ pub record OneAnswer : Type 0 where
   pub evaluate : (choice : ℕ) (table : List ℕ) (α : Assignment) (budget : ℕ) (lent : List ℕ) (o p : Outcome)
       → Evaluates choice table α budget lent o → Evaluates choice table α budget lent p → o ≡ p
   pub translate : (choice : ℕ) (table lent : List ℕ) (o p : Outcome) → Translates choice table lent o → Translates choice table lent p → o ≡ p
-  pub list : (input lent after other : List ℕ) → Lists input lent after → Lists input lent other → after ≡ other
+  pub list : (input lent : List ℕ) (long far : ℕ) (after other : List ℕ) → Lists input lent long after → Lists input lent far other → (long ≡ far) × (after ≡ other)
 
 -- ---- demand 1
 
