@@ -24,8 +24,8 @@ use Rattle.answers.proofs.Listed.{length-listed}
 use Rattle.answers.proofs.NodeTrees.{length-rows}
 use Rattle.answers.proofs.ConstraintsFit.{ConstraintPassed, none→ConstraintPassed}
 use Rattle.answers.proofs.Passed.{Passed, checkFault≡none→Passed, Passed→SectionsOrdered, few-records}
-use Rattle.evaluator.specs.declared.values.Walked.{Walked}
-use Rattle.evaluator.specs.Values.{ofCalm, ofTruth, truthOf}
+use Rattle.operations.specs.declared.values.Walked.{Walked}
+use Rattle.operations.specs.Values.{ofCalm, ofTruth, truthOf}
 use Rattle.evaluator.specs.Walks as walks
 use Rattle.evaluator.specs.Walks.{Laid, truthWalked, truthAt}
 use Rattle.preparation.specs.Prepared.{Prepared}

@@ -11,7 +11,7 @@ use Rattle.language.specs.Tables.{treeB}
 use Rattle.language.specs.Meaning.{Assignment}
 use Rattle.answers.specs.Sections.{constraintsAt, restAt, declarations, nodeTrees, constraints}
 use Rattle.answers.specs.Answers.{unset, allCalm, verdicts, allOne}
-use Rattle.evaluator.specs.declared.values.Walked.{Walked}
+use Rattle.operations.specs.declared.values.Walked.{Walked}
 use Rattle.evaluator.specs.Walks.{truthWalked}
 use Rattle.constraints.specs.declared.Verdicts.{Verdicts}
 

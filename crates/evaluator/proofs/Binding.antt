@@ -15,11 +15,11 @@ use Rattle.language.specs.Tables.{treeI, treeB}
 use Rattle.language.specs.Readings as readings
 use Rattle.language.specs.Readings.{both, connective, joins, ofNone, over, quantified, summed}
 use Rattle.language.specs.Meaning.{Assignment, put, slotAt, count, valueI, valueB, calmValue, throughout, calmI, calmB}
-use Rattle.evaluator.specs.declared.values.Walked.{Walked}
-use Rattle.evaluator.specs.declared.sums.Total.{Total}
-use Rattle.evaluator.specs.Values.{ofInteger, ofTruth, ofCalm, limitedTo}
-use Rattle.evaluator.specs.Truths.{connected}
-use Rattle.evaluator.specs.Sums.{totalOf, totalValue, plusTo}
+use Rattle.operations.specs.declared.values.Walked.{Walked}
+use Rattle.operations.specs.declared.sums.Total.{Total}
+use Rattle.operations.specs.Values.{ofInteger, ofTruth, ofCalm, limitedTo}
+use Rattle.operations.specs.Truths.{connected}
+use Rattle.operations.specs.Sums.{totalOf, totalValue, plusTo}
 use Rattle.evaluator.specs.Walks.{declared, treesOf, settingOf, integerWalked, truthWalked, integerAt, truthAt, sumAt, quantifiedAt}
 use Rattle.evaluator.proofs.Walking.{both-truths}
 

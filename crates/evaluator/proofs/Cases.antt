@@ -15,15 +15,15 @@ use Rattle.language.specs.Readings.{arithmetic, division}
 use Rattle.language.specs.Meaning.{Assignment, isOne, valueOf, valueI, valueB, calmValue, calmI, calmB}
 use Rattle.language.proofs.Trees.{tree-at, NamesBelow}
 use Rattle.answers.specs.Sections.{listed}
-use Rattle.evaluator.specs.declared.values.Value.the-variants.{Truth}
-use Rattle.evaluator.specs.declared.values.Walked.{Walked}
+use Rattle.operations.specs.declared.values.Value.the-variants.{Truth}
+use Rattle.operations.specs.declared.values.Walked.{Walked}
 use Rattle.evaluator.specs.declared.nodes.IntegerNode.{IntegerNode}
 use Rattle.evaluator.specs.declared.nodes.IntegerNode.the-variants as integer
 use Rattle.evaluator.specs.declared.nodes.TruthNode.{TruthNode}
 use Rattle.evaluator.specs.declared.nodes.TruthNode.the-variants as truth
-use Rattle.evaluator.specs.Values.{integerOf, ofCalm, limitedTo}
-use Rattle.evaluator.specs.Operations.{integers, negated, numbered}
-use Rattle.evaluator.specs.Truths.{compared, connected, opposed}
+use Rattle.operations.specs.Values.{integerOf, ofCalm, limitedTo}
+use Rattle.operations.specs.Integers.{integers, negated, numbered}
+use Rattle.operations.specs.Truths.{compared, connected, opposed}
 use Rattle.evaluator.specs.Nodes.{integerCase, truthCase}
 use Rattle.evaluator.specs.Walks.{nodeCount, declared, rowAt, treesOf, Laid, settingOf, integerWalked, truthWalked, lookedUp, lookedUpTruth, integerAt, truthAt, sumAt, quantifiedAt}
 use Rattle.evaluator.proofs.Declared.{length-listed, listed-at}

@@ -13,7 +13,7 @@ use Rattle.language.specs.Meaning.{Assignment, Setting}
 use Rattle.table.specs.Kinds.{Kind, kinds, kindOf}
 use Rattle.table.specs.Records.{kindAt, xAt, yAt}
 use Rattle.answers.specs.Sections.{rowOf}
-use Rattle.evaluator.specs.declared.values.Value.the-variants.{Integer, Truth}
+use Rattle.operations.specs.declared.values.Value.the-variants.{Integer, Truth}
 use Rattle.evaluator.specs.declared.nodes.IntegerNode.the-variants as integer
 use Rattle.evaluator.specs.declared.nodes.TruthNode.the-variants as truth
 use Rattle.evaluator.specs.declared.lookups.Leaf.the-variants.{Other}

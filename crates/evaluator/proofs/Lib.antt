@@ -2,8 +2,6 @@ pub mod Binding
 pub mod Cases
 pub mod Declared
 pub mod Decoding
-pub mod Levels
-pub mod Pairs
 pub mod Stepping
 pub mod Turning
 pub mod Walking

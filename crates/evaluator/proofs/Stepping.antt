@@ -15,12 +15,12 @@ use Rattle.language.specs.Tables.{Row, constantRow, variableRow, slotRow, arith
 use Rattle.language.specs.Readings as readings
 use Rattle.language.specs.Meaning.{Assignment}
 use Rattle.answers.specs.Sections.{rowOf}
-use Rattle.evaluator.specs.declared.values.Walked.{Walked}
+use Rattle.operations.specs.declared.values.Walked.{Walked}
 use Rattle.evaluator.specs.declared.nodes.IntegerNode.{IntegerNode}
 use Rattle.evaluator.specs.declared.nodes.TruthNode.{TruthNode}
 use Rattle.evaluator.specs.declared.lookups.Leaf.{Leaf}
 use Rattle.evaluator.specs.declared.lookups.Leaf.the-variants.{Is}
-use Rattle.evaluator.specs.Values.{limitedTo}
+use Rattle.operations.specs.Values.{limitedTo}
 use Rattle.evaluator.specs.Nodes.{nodesFrom, integerCase, truthCase}
 use Rattle.evaluator.specs.Walks.{rowAt, Ready, settingOf, leafOf, integerAt, truthAt}
 use Rattle.evaluator.proofs.Cases.{IntegerBelow, TruthBelow, integerOfCase, truthOfCase, integer-node, truth-node, integer-operands, truth-operands}

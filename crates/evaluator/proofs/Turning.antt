@@ -17,12 +17,12 @@ use Rattle.language.specs.Syntax as syntax
 use Rattle.language.specs.Readings as readings
 use Rattle.language.specs.Readings.{joins}
 use Rattle.language.specs.Meaning.{Assignment, noSlot, slotAt, count}
-use Rattle.evaluator.specs.declared.values.Walked.{Walked}
+use Rattle.operations.specs.declared.values.Walked.{Walked}
 use Rattle.evaluator.specs.declared.ranges.Range.{Range}
-use Rattle.evaluator.specs.declared.sums.Total.{Total}
-use Rattle.evaluator.specs.Values.{limitedTo}
-use Rattle.evaluator.specs.Truths.{connected}
-use Rattle.evaluator.specs.Sums.{totalValue, plusTo}
+use Rattle.operations.specs.declared.sums.Total.{Total}
+use Rattle.operations.specs.Values.{limitedTo}
+use Rattle.operations.specs.Truths.{connected}
+use Rattle.operations.specs.Sums.{totalValue, plusTo}
 use Rattle.evaluator.specs.Walks.{slotCount, declared, Laid, rangeOf, integerAt, truthAt, sumAt, quantifiedAt}
 use Rattle.evaluator.proofs.Declared.{slot-declared, slot-missing}
 use Rattle.evaluator.proofs.Binding.{totalTo, total-more, sum-total, jointTo, joint-more, quantified-joint}

@@ -12,12 +12,12 @@ use Rattle.language.specs.Syntax.{IExp, BExp, Declarations}
 use Rattle.language.specs.Readings as readings
 use Rattle.language.specs.Readings.{both, arithmetic, division, comparison, connective, closed, opposite}
 use Rattle.language.specs.Meaning.{Assignment, Setting, arrayAt, isOne, number, elementAt, valueI, valueB, calmValue, calmI, calmB}
-use Rattle.evaluator.specs.declared.values.Walked.{Walked}
-use Rattle.evaluator.specs.Values.{ofInteger, ofTruth, integerOf, truthOf, ofCalm, limitedTo, truthTo}
-use Rattle.evaluator.specs.Operations.{integers, negated, numbered}
-use Rattle.evaluator.specs.Truths.{compared, connected, opposed}
+use Rattle.operations.specs.declared.values.Walked.{Walked}
+use Rattle.operations.specs.Values.{ofInteger, ofTruth, integerOf, truthOf, ofCalm, limitedTo, truthTo}
+use Rattle.operations.specs.Integers.{integers, negated, numbered}
+use Rattle.operations.specs.Truths.{compared, connected, opposed}
 use Rattle.evaluator.specs.Walks.{integerWalked, truthWalked, lookedUp, lookedUpTruth}
-use Rattle.evaluator.proofs.Pairs.{integerOf-ofInteger}
+use Rattle.operations.proofs.Pairs.{integerOf-ofInteger}
 
 truthOf-ofTruth : (v : Option Bool) → truthOf (ofTruth v) ≡ v
 truthOf-ofTruth none = refl

@@ -11,7 +11,7 @@ use Rattle.table.specs.declared.VariableNumber.{VariableNumber}
 use Rattle.table.specs.declared.SlotNumber.{SlotNumber}
 use Rattle.table.specs.declared.ArrayNumber.{ArrayNumber}
 use Rattle.table.specs.declared.NodeNumber.{NodeNumber}
-use Rattle.evaluator.specs.declared.values.Value.the-variants.{Integer, Truth}
+use Rattle.operations.specs.declared.values.Value.the-variants.{Integer, Truth}
 use Rattle.evaluator.specs.declared.nodes.IntegerNode.{IntegerNode}
 use Rattle.evaluator.specs.declared.nodes.IntegerNode.the-variants as integer
 use Rattle.evaluator.specs.declared.nodes.TruthNode.{TruthNode}

@@ -18,13 +18,13 @@ use Rattle.language.specs.Readings.{closed}
 use Rattle.language.specs.Meaning.{Assignment, Setting, arrayAt, count, isOne, valueOf, elementAt, valueI, valueB, calmI, calmB}
 use Rattle.language.proofs.Trees.{NamesBelow}
 use Rattle.answers.specs.Sections.{listed, variableOf, slotOf, arrayOf, behindArray, rowOf}
-use Rattle.evaluator.specs.declared.values.Walked.{Walked}
-use Rattle.evaluator.specs.declared.values.Quantifier.{Quantifier}
-use Rattle.evaluator.specs.declared.values.Quantifier.the-variants.{Exists, Forall}
+use Rattle.operations.specs.declared.values.Walked.{Walked}
+use Rattle.operations.specs.declared.values.Quantifier.{Quantifier}
+use Rattle.operations.specs.declared.values.Quantifier.the-variants.{Exists, Forall}
 use Rattle.evaluator.specs.declared.lookups.Leaf.{Leaf}
 use Rattle.evaluator.specs.declared.lookups.Leaf.the-variants.{Is, Other}
 use Rattle.evaluator.specs.declared.ranges.Range.{Range}
-use Rattle.evaluator.specs.Values.{ofInteger, ofTruth, integerOf, ofCalm, limitedTo, truthTo}
+use Rattle.operations.specs.Values.{ofInteger, ofTruth, integerOf, ofCalm, limitedTo, truthTo}
 use Rattle.evaluator.specs.Nodes.{nodesFrom}
 
 abbrev pub slotsFrom : List ℕ → ℕ

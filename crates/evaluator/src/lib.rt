@@ -1,10 +1,6 @@
 // The evaluator: the values of a table's nodes under a reading, and the steps that they cost.
 pub mod lookups;
 pub mod nodes;
-pub mod operations;
 pub mod ranges;
 pub mod records;
-pub mod sums;
-pub mod truths;
-pub mod values;
 pub mod walk;

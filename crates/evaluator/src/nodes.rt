@@ -9,7 +9,7 @@ use crate::records::kind_at;
 use crate::records::named_x;
 use crate::records::named_y;
 use crate::records::x_at;
-use crate::values::Value;
+use operations::values::Value;
 use table::ArrayNumber;
 use table::NodeNumber;
 use table::SlotNumber;

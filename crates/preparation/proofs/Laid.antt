@@ -24,10 +24,10 @@ use Rattle.answers.proofs.Listed.{listed-agree}
 use Rattle.answers.proofs.SameFaults.{variableOf-alike, slotOf-alike}
 use Rattle.answers.proofs.ArrayRuns.{ArraysPassed-at}
 use Rattle.answers.proofs.Passed.{Passed, SectionsOrdered, Passed→SectionsOrdered, few-records}
-use Rattle.evaluator.specs.Values.{ofCalm, ofTruth}
+use Rattle.operations.specs.Values.{ofCalm, ofTruth}
 use Rattle.evaluator.specs.Walks as walks
 use Rattle.evaluator.specs.Walks.{slotsFrom, declared, treesOf, rowAt, Laid, settingOf, truthWalked, truthAt}
-use Rattle.evaluator.specs.declared.values.Walked.{Walked}
+use Rattle.operations.specs.declared.values.Walked.{Walked}
 use Rattle.preparation.specs.Prepared.{padded, PlacesOf}
 use Rattle.preparation.proofs.Alike.{padded-alike, rowOf-padded, behindArray-padded, arrayOf-padded}
 use Rattle.preparation.proofs.Below.{passed-below}

@@ -8,7 +8,7 @@ use borrow.Author.Tests.{not-true, not-false}
 use Rattle.answers.specs.Sections.{constraintCount}
 use Rattle.layout.proofs.Checked.{checked}
 use Rattle.layout.proofs.Order.{laid}
-use Rattle.evaluator.specs.Values.{readingOf}
+use Rattle.operations.specs.Values.{readingOf}
 use Rattle.constraints.proofs.Walking.{Walked-so-far, few-constraints, walked-none, walked-more, walked-beyond, walked-all}
 use Rattle.constraints.proofs.constraint_values.Statement.{statement}
 use Rattle.constraints.proofs.constraint_values.Tie as tie

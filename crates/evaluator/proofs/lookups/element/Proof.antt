@@ -12,9 +12,9 @@ use mir.Val.{SFits, toZ, ofZ}
 use mir.Facts.{toZ-ofZ}
 use Rattle.language.specs.Meaning.{Assignment, arrayAt, elementAt}
 use Rattle.answers.specs.Sections.{arrayOf}
-use Rattle.evaluator.specs.declared.values.Value.{Value}
-use Rattle.evaluator.specs.declared.values.Value.the-variants.{Undefined}
-use Rattle.evaluator.specs.Values.{ofInteger}
+use Rattle.operations.specs.declared.values.Value.{Value}
+use Rattle.operations.specs.declared.values.Value.the-variants.{Undefined}
+use Rattle.operations.specs.Values.{ofInteger}
 use Rattle.evaluator.specs.Walks.{Laid, arrayCount, declared}
 use Rattle.evaluator.proofs.Declared.{array-declared, array-missing, element-missing}
 use Rattle.evaluator.proofs.lookups.element.Statement.{statement}

@@ -14,8 +14,8 @@ use mir.Facts.{toZ-ofZ}
 use Rattle.language.specs.Meaning.{Assignment, elementValue, elementAt}
 use Rattle.table.specs.Records.{xAt, yAt}
 use Rattle.answers.specs.Sections.{elementOf, arrayOf, behindArray}
-use Rattle.evaluator.specs.declared.values.Value.the-variants.{Integer, Undefined}
-use Rattle.evaluator.specs.Values.{ofInteger}
+use Rattle.operations.specs.declared.values.Value.the-variants.{Integer, Undefined}
+use Rattle.operations.specs.Values.{ofInteger}
 use Rattle.evaluator.proofs.Declared.{before-array, behind-elements, element-found}
 use Rattle.evaluator.proofs.lookups.element_in.Statement.{statement}
 use Rattle.evaluator.proofs.lookups.element_in.Tie as tie

@@ -12,10 +12,10 @@ use mir.Val.{SFits}
 use Rattle.numbers.proofs.Widths.{through, widened, arrives}
 use Rattle.language.specs.Meaning.{valueOf}
 use Rattle.table.specs.Kinds.{kinds, kindOf}
-use Rattle.evaluator.specs.declared.values.Walked.{Walked}
+use Rattle.operations.specs.declared.values.Walked.{Walked}
 use Rattle.evaluator.specs.declared.lookups.Leaf.{Leaf}
 use Rattle.evaluator.specs.declared.lookups.Leaf.the-variants.{Is, Other}
-use Rattle.evaluator.specs.Values.{limitedTo}
+use Rattle.operations.specs.Values.{limitedTo}
 use Rattle.evaluator.specs.Nodes.{nodesFrom}
 use Rattle.evaluator.specs.Walks.{settingOf, leafOf}
 use Rattle.evaluator.proofs.Decoding.{rowIn, of-kind, leafKind, other-leaf}

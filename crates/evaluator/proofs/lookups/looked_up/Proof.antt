@@ -11,12 +11,12 @@ use mir.Facts.{toZ-ofZ}
 use Rattle.language.specs.Syntax.{Declarations}
 use Rattle.language.specs.Readings.{strict}
 use Rattle.language.specs.Meaning.{Assignment, arrayAt, elementAt}
-use Rattle.evaluator.specs.declared.values.Value.{Value}
-use Rattle.evaluator.specs.declared.values.Value.the-variants.{Undefined}
-use Rattle.evaluator.specs.declared.values.Walked.{Walked}
-use Rattle.evaluator.specs.Values.{integerOf, ofInteger, ofCalm, limitedTo}
+use Rattle.operations.specs.declared.values.Value.{Value}
+use Rattle.operations.specs.declared.values.Value.the-variants.{Undefined}
+use Rattle.operations.specs.declared.values.Walked.{Walked}
+use Rattle.operations.specs.Values.{integerOf, ofInteger, ofCalm, limitedTo}
 use Rattle.evaluator.specs.Walks.{declared, lookedUp}
-use Rattle.evaluator.proofs.Pairs.{missing, integerOf-ofInteger}
+use Rattle.operations.proofs.Pairs.{missing, integerOf-ofInteger}
 use Rattle.evaluator.proofs.lookups.looked_up.Statement.{statement}
 use Rattle.evaluator.proofs.lookups.looked_up.Tie as tie
 

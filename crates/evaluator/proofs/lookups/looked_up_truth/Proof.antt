@@ -12,11 +12,11 @@ use Rattle.language.specs.Syntax.{Declarations}
 use Rattle.language.specs.Readings as readings
 use Rattle.language.specs.Readings.{closed}
 use Rattle.language.specs.Meaning.{Assignment, arrayAt, elementAt, isOne}
-use Rattle.evaluator.specs.declared.values.Value.{Value}
-use Rattle.evaluator.specs.declared.values.Walked.{Walked}
-use Rattle.evaluator.specs.Values.{readingOf, integerOf, ofInteger, truthTo}
+use Rattle.operations.specs.declared.values.Value.{Value}
+use Rattle.operations.specs.declared.values.Walked.{Walked}
+use Rattle.operations.specs.Values.{readingOf, integerOf, ofInteger, truthTo}
 use Rattle.evaluator.specs.Walks.{declared, lookedUpTruth}
-use Rattle.evaluator.proofs.Pairs.{integerOf-ofInteger}
+use Rattle.operations.proofs.Pairs.{integerOf-ofInteger}
 use Rattle.evaluator.proofs.lookups.looked_up_truth.Statement.{statement}
 use Rattle.evaluator.proofs.lookups.looked_up_truth.Tie as tie
 

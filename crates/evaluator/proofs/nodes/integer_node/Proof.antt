@@ -8,7 +8,7 @@ use mir.Facts.{toZ-ofZ}
 use borrow.Author.Needs.{needs, sfits-of}
 use borrow.Author.Tests.{ne-eqb}
 use Rattle.table.specs.Kinds.{kinds, kindOf}
-use Rattle.evaluator.specs.declared.values.Value.the-variants.{Integer}
+use Rattle.operations.specs.declared.values.Value.the-variants.{Integer}
 use Rattle.evaluator.specs.declared.nodes.IntegerNode.the-variants as integer
 use Rattle.evaluator.specs.Nodes.{nodesFrom, node, variable, slot, array, integerCase}
 use Rattle.evaluator.proofs.Decoding.{rowIn, of-kind, integerKind, other-integer}

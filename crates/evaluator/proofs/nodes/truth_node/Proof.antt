@@ -14,7 +14,7 @@ use Rattle.numbers.specs.Whole.{eqZ}
 use Rattle.numbers.proofs.Widths.{eq-bits}
 use Rattle.language.specs.Meaning.{isOne}
 use Rattle.table.specs.Kinds.{kinds, kindOf}
-use Rattle.evaluator.specs.declared.values.Value.the-variants.{Truth}
+use Rattle.operations.specs.declared.values.Value.the-variants.{Truth}
 use Rattle.evaluator.specs.declared.nodes.TruthNode.the-variants as truth
 use Rattle.evaluator.specs.Nodes.{nodesFrom, node, variable, slot, array, truthCase}
 use Rattle.evaluator.proofs.Decoding.{rowIn, of-kind, truthKind, other-truth}

@@ -4,7 +4,7 @@ use Prim.Native.Nat.{ℕ, _+_, _-_, _*_, _^_, _≤_, _<_}
 use native.Mathlib.Omega.{arith}
 use mathlib.Core.List.{List}
 use lib.ListN.{length, set, length-set}
-use Rattle.evaluator.specs.Sums.{totalOf}
+use Rattle.operations.specs.Sums.{totalOf}
 use mathlib.Core.Bool.{true}
 use mathlib.Core.Option.{some}
 use lib.Dec.{eqb}
@@ -17,12 +17,12 @@ use Rattle.language.specs.Syntax as syntax
 use Rattle.language.specs.Readings as readings
 use Rattle.language.specs.Readings.{arithmetic, division}
 use Rattle.language.specs.Meaning.{isOne}
-use Rattle.evaluator.specs.declared.values.Walked.{Walked}
-use Rattle.evaluator.specs.declared.sums.Total.{Total}
-use Rattle.evaluator.specs.declared.values.Value.the-variants.{Truth}
-use Rattle.evaluator.specs.Values.{readingOf, ofCalm}
-use Rattle.evaluator.specs.Operations.{integers, negated, numbered}
-use Rattle.evaluator.specs.Truths.{compared, connected, opposed}
+use Rattle.operations.specs.declared.values.Walked.{Walked}
+use Rattle.operations.specs.declared.sums.Total.{Total}
+use Rattle.operations.specs.declared.values.Value.the-variants.{Truth}
+use Rattle.operations.specs.Values.{readingOf, ofCalm}
+use Rattle.operations.specs.Integers.{integers, negated, numbered}
+use Rattle.operations.specs.Truths.{compared, connected, opposed}
 use Rattle.evaluator.specs.Walks.{Ready, quantifierOf, declared, integerAt, truthAt, lookedUp, lookedUpTruth}
 use Rattle.evaluator.proofs.Binding.{totalTo, total-none, jointTo, joint-none}
 use Rattle.evaluator.proofs.Turning.{slot-in, few-turns, value-fits, value-is, restored, sum-turn, sum-done, joint-turn, joint-done}
@@ -51,22 +51,22 @@ use Rattle.evaluator.proofs.lookups.slot.Reads as slot-reads
 use Rattle.evaluator.proofs.lookups.variable.Reads as variable-reads
 use Rattle.evaluator.proofs.nodes.integer_node.Reads as integer-node-reads
 use Rattle.evaluator.proofs.nodes.truth_node.Reads as truth-node-reads
-use Rattle.evaluator.proofs.operations.calculate.Reads as calculate-reads
-use Rattle.evaluator.proofs.operations.divide.Reads as divide-reads
-use Rattle.evaluator.proofs.operations.negate.Reads as negate-reads
-use Rattle.evaluator.proofs.operations.number.Reads as number-reads
+use Rattle.operations.proofs.integers.calculate.Reads as calculate-reads
+use Rattle.operations.proofs.integers.divide.Reads as divide-reads
+use Rattle.operations.proofs.integers.negate.Reads as negate-reads
+use Rattle.operations.proofs.integers.number.Reads as number-reads
 use Rattle.evaluator.proofs.ranges.range_of.Reads as range-of-reads
 use Rattle.evaluator.proofs.ranges.value_in.Reads as value-in-reads
-use Rattle.evaluator.proofs.sums.added.Reads as added-reads
-use Rattle.evaluator.proofs.sums.nothing.Reads as nothing-reads
-use Rattle.evaluator.proofs.sums.summed.Reads as summed-reads
-use Rattle.evaluator.proofs.truths.compare.Reads as compare-reads
-use Rattle.evaluator.proofs.truths.connect.Reads as connect-reads
-use Rattle.evaluator.proofs.truths.negation.Reads as negation-reads
-use Rattle.evaluator.proofs.values.limited.Reads as limited-reads
-use Rattle.evaluator.proofs.values.limited_value.Reads as limited-value-reads
-use Rattle.evaluator.proofs.values.of_calm.Reads as of-calm-reads
-use Rattle.evaluator.proofs.values.truth_of.Reads as truth-of-reads
+use Rattle.operations.proofs.sums.added.Reads as added-reads
+use Rattle.operations.proofs.sums.nothing.Reads as nothing-reads
+use Rattle.operations.proofs.sums.summed.Reads as summed-reads
+use Rattle.operations.proofs.truths.compare.Reads as compare-reads
+use Rattle.operations.proofs.truths.connect.Reads as connect-reads
+use Rattle.operations.proofs.truths.negation.Reads as negation-reads
+use Rattle.operations.proofs.values.limited.Reads as limited-reads
+use Rattle.operations.proofs.values.limited_value.Reads as limited-value-reads
+use Rattle.operations.proofs.values.of_calm.Reads as of-calm-reads
+use Rattle.operations.proofs.values.truth_of.Reads as truth-of-reads
 use Rattle.evaluator.proofs.walk.empty.Reads as empty-reads
 use Rattle.evaluator.proofs.walk.joins.Reads as joins-reads
 use Rattle.evaluator.proofs.walk.+integer+operand+quantified+sum+truth.{statement}

@@ -5,10 +5,10 @@ use mathlib.Core.Bool.{true, false}
 use mathlib.Core.Option.{some}
 use borrow.Author.Needs.{needs}
 use Rattle.language.specs.Readings as readings
-use Rattle.evaluator.specs.declared.values.Value.the-variants.{Truth}
-use Rattle.evaluator.specs.declared.values.Quantifier.{Quantifier}
-use Rattle.evaluator.specs.declared.values.Quantifier.the-variants.{Exists, Forall}
-use Rattle.evaluator.specs.Values.{ofTruth, ofCalm}
+use Rattle.operations.specs.declared.values.Value.the-variants.{Truth}
+use Rattle.operations.specs.declared.values.Quantifier.{Quantifier}
+use Rattle.operations.specs.declared.values.Quantifier.the-variants.{Exists, Forall}
+use Rattle.operations.specs.Values.{ofTruth, ofCalm}
 use Rattle.evaluator.specs.Walks.{quantifierOf}
 use Rattle.evaluator.proofs.walk.empty.Statement.{statement}
 use Rattle.evaluator.proofs.walk.empty.Tie as tie

@@ -4,8 +4,8 @@ use mathlib.Core.Path.{_≡_}
 use borrow.Author.Needs.{needs}
 use Rattle.language.specs.Syntax as syntax
 use Rattle.language.specs.Readings as readings
-use Rattle.evaluator.specs.declared.values.Quantifier.{Quantifier}
-use Rattle.evaluator.specs.declared.values.Quantifier.the-variants.{Exists, Forall}
+use Rattle.operations.specs.declared.values.Quantifier.{Quantifier}
+use Rattle.operations.specs.declared.values.Quantifier.the-variants.{Exists, Forall}
 use Rattle.evaluator.specs.Walks.{quantifierOf}
 use Rattle.evaluator.proofs.walk.joins.Statement.{statement}
 use Rattle.evaluator.proofs.walk.joins.Tie as tie

@@ -1,0 +1,141 @@
+// Integer operations on what the walk met. "An integer operation is undefined if an operand is."
+ghost use mathlib.Core.Path.{_≡_};
+ghost use mathlib.Core.Bool.{false};
+ghost use mathlib.Core.Option.{some};
+ghost use lib.IntN.{pos};
+ghost use Rattle.numbers.specs.Whole.{eqZ};
+ghost use Rattle.numbers.specs.Whole as whole;
+ghost use Rattle.language.specs.Readings as readings;
+ghost use Rattle.operations.specs.Integers.{arithmeticOf, divisionOf, operandsOf, integers, negated, numbered};
+use crate::values::Value;
+use crate::values::Walked;
+use crate::values::limited;
+use crate::values::undefined;
+
+pub enum Arithmetic {
+    Plus,
+    Minus,
+    Times,
+    Least,
+    Most,
+}
+
+pub enum Division {
+    Quotient,
+    Remainder,
+}
+
+// Two integers, or the calm of two operands of which one is undefined.
+pub enum Operands {
+    Both(i32, i32),
+    Missing(bool),
+}
+
+pub fn integers_of(a: Walked, b: Walked) -> Operands
+    ensures { λ r. ⌜ r ≡ operandsOf a b ⌝ }
+{
+    let x = a.value;
+    let y = b.value;
+    if a.calm && b.calm {
+        match x {
+            Value::Integer(i) => match y {
+                Value::Integer(j) => Operands::Both(i, j),
+                Value::Truth(_) => Operands::Missing(true),
+                Value::Undefined => Operands::Missing(true),
+            },
+            Value::Truth(_) => Operands::Missing(true),
+            Value::Undefined => Operands::Missing(true),
+        }
+    } else {
+        Operands::Missing(false)
+    }
+}
+
+// Sums and products of 32 bits fit 64.
+fn combined(op: Arithmetic, x: i32, y: i32) -> i64
+    ensures { λ r. ⌜ r ≡ readings.arithmetic (arithmeticOf op) x y ⌝ }
+{
+    match op {
+        Arithmetic::Plus => x as i64 + y as i64,
+        Arithmetic::Minus => x as i64 - y as i64,
+        Arithmetic::Times => x as i64 * y as i64,
+        Arithmetic::Least => if x <= y { x as i64 } else { y as i64 },
+        Arithmetic::Most => if x <= y { y as i64 } else { x as i64 },
+    }
+}
+
+pub fn calculate(op: Arithmetic, a: Walked, b: Walked) -> Walked
+    ensures { λ r. ⌜ r ≡ integers (λ x y. some (readings.arithmetic (arithmeticOf op) x y)) a b ⌝ }
+{
+    match integers_of(a, b) {
+        Operands::Both(x, y) => limited(true, combined(op, x, y)),
+        Operands::Missing(calm) => undefined(calm),
+    }
+}
+
+// "mod is the remainder in 0 to |b|−1": what the machine's remainder leaves, and |b| more where that is negative.
+fn remainder(x: i32, y: i32) -> i64
+    requires { ⌜ eqZ y (pos 0) ≡ false ⌝ }
+    ensures { λ r. ⌜ r ≡ whole.remainder x y ⌝ }
+{
+    let r = x as i64 % y as i64;
+    if 0 <= r {
+        r
+    } else if y < 0 {
+        r - y as i64
+    } else {
+        r + y as i64
+    }
+}
+
+// "The quotient is cut toward zero", as the machine's is.
+fn part(op: Division, x: i32, y: i32) -> i64
+    requires { ⌜ eqZ y (pos 0) ≡ false ⌝ }
+    ensures { λ r. ⌜ r ≡ readings.part (divisionOf op) x y ⌝ }
+{
+    match op {
+        Division::Quotient => x as i64 / y as i64,
+        Division::Remainder => remainder(x, y),
+    }
+}
+
+// "div and mod by 0 .. are undefined."
+pub fn divide(op: Division, a: Walked, b: Walked) -> Walked
+    ensures { λ r. ⌜ r ≡ integers (readings.division (divisionOf op)) a b ⌝ }
+{
+    match integers_of(a, b) {
+        Operands::Both(x, y) => if y == 0 {
+            undefined(true)
+        } else {
+            limited(true, part(op, x, y))
+        },
+        Operands::Missing(calm) => undefined(calm),
+    }
+}
+
+pub fn negate(a: Walked) -> Walked
+    ensures { λ r. ⌜ r ≡ negated a ⌝ }
+{
+    let v = a.value;
+    match v {
+        Value::Integer(x) => limited(a.calm, 0 - x as i64),
+        Value::Truth(_) => undefined(a.calm),
+        Value::Undefined => undefined(a.calm),
+    }
+}
+
+// boolToInt: true is 1, false 0.
+pub fn number(a: Walked) -> Walked
+    ensures { λ r. ⌜ r ≡ numbered a ⌝ }
+{
+    let v = a.value;
+    match v {
+        Value::Integer(_) => undefined(a.calm),
+        Value::Truth(b) => if b {
+            limited(a.calm, 1)
+        } else {
+            limited(a.calm, 0)
+        },
+        Value::Undefined => undefined(a.calm),
+    }
+}
