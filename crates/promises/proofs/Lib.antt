@@ -1,1 +1,2 @@
 pub mod OfCheck
+pub mod OfTranslate
