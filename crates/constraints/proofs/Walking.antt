@@ -167,11 +167,12 @@ module _ (table : List ℕ) (ρ : Reading) (α : Assignment) where
       last : i ≡ n → (allCalm table ρ α (listed n nodeAt) && calmAt (nodeAt n)) ≡ false
       last q = rw (← q, e) (&&-false (allCalm table ρ α (listed i nodeAt)))
 
-  pub walked-beyond : {i p : ℕ} {w : Walked} {r : Verdicts} → i < constraintCount table → p ≡ constraintsAt table + i
+  pub walked-beyond : {i p : ℕ} {w : Walked} {r : Verdicts} → length (r .bytes) ≡ 5000 → i < constraintCount table → p ≡ constraintsAt table + i
       → w ≡ walkedAt table ρ α (natAbs (xAt table p)) → w .calm ≡ false → r .calm ≡ false → VerdictsOf table ρ α r
   unfolding constraints
-  walked-beyond {i} l q e c f =
+  walked-beyond {i} long l q e c f =
       record {
+        long = long;
         calm = f ∙ sym (calm-not (constraintCount table) i l (ap (λ j. calmAt (natAbs (xAt table j))) (sym q) ∙ sym (walked-calm _ e) ∙ c));
         bytes = λ t. clash (sym t ∙ f);
         all = λ t. clash (sym t ∙ f);
@@ -182,6 +183,7 @@ module _ (table : List ℕ) (ρ : Reading) (α : Assignment) where
   unfolding constraints verdicts
   walked-all {i = i} s q c a =
       record {
+        long = s .sized;
         calm = c ∙ sym (rw q at (s .calm));
         bytes = λ t. rw length-listed (rw q at (s .written));
         all = λ t. a ∙ rw q at (s .all-one);

@@ -32,6 +32,7 @@ pub record ConstraintAt (table : List ℕ) (p : ℕ) : Type 0 where
 
 -- Whether the walk over all constraints stayed within the limit; and if so, their bytes from byte 0 on and whether all are 1.
 pub record VerdictsOf (table : List ℕ) (ρ : Reading) (α : Assignment) (r : Verdicts) : Type 0 where
+  pub long : length (r .bytes) ≡ 5000
   pub calm : r .calm ≡ allCalm table ρ α (constraints table)
   pub bytes : r .calm ≡ true → take (length (constraints table)) (r .bytes) ≡ verdicts table ρ α
   pub all : r .calm ≡ true → r .all ≡ allOne table ρ α (verdicts table ρ α)

@@ -33,7 +33,7 @@ constraint-value-requires c κs = let e = c .before .before .before .before in l
 
 returns : tie.Need-returns Inv-loop μ-loop
 unfolding constraintCount
-returns c = let e = c .before .before .before .before .before .before .before in let l = laid (e .args .s .now) (checked _ (e .pre .0 .sound)) (e .pre .1) in walked-beyond _ _ _ (omega (arith, l)) (ap (λ k. k + c .before .before .before .before .loop .i) (l .constraints)) (c .before .before .constraint-value .ensures) (not-true _ (c .if1 .taken)) refl
+returns c = let e = c .before .before .before .before .before .before .before in let l = laid (e .args .s .now) (checked _ (e .pre .0 .sound)) (e .pre .1) in walked-beyond _ _ _ (c .before .before .before .before .loop .inv .0 .sized) (omega (arith, l)) (ap (λ k. k + c .before .before .before .before .loop .i) (l .constraints)) (c .before .before .constraint-value .ensures) (not-true _ (c .if1 .taken)) refl
 
 verdict-byte-requires : tie.Need-verdict-byte-requires Inv-loop μ-loop
 verdict-byte-requires c κs = tt

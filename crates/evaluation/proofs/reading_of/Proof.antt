@@ -1,0 +1,24 @@
+-- `evaluation::reading_of` meets its contract.
+-- Assumes nothing.
+use Rattle.answers.specs.Answers.{readingOf}
+use Rattle.evaluation.proofs.Outcomes.{no-reading}
+use Rattle.evaluation.proofs.reading_of.Statement.{statement}
+use Rattle.evaluation.proofs.reading_of.Tie as tie
+
+returns : tie.Need-returns
+unfolding readingOf
+returns c = rw (c .match .keys1)
+
+returns-2 : tie.Need-returns-2
+unfolding readingOf
+returns-2 c = rw (c .match .keys2)
+
+returns-3 : tie.Need-returns-3
+unfolding readingOf
+returns-3 c = rw (c .match .keys3)
+
+returns-4 : tie.Need-returns-4
+returns-4 c = no-reading _ (c .match .rest .0 .0 .1) (c .match .rest .0 .1) (c .match .rest .1)
+
+pub reading-of-spec : {M : Type 1} → statement M
+reading-of-spec = tie.close (tie.spec returns returns-2 returns-3 returns-4)
