@@ -2,7 +2,7 @@
 -- Assumes nothing.
 use mathlib.Core.Option.{Option, none, some}
 use Rattle.language.specs.Readings as Language
-use Rattle.evaluator.specs.Values.{readingOf}
+use Rattle.operations.specs.Values.{readingOf}
 use Rattle.evaluation.specs.declared.Choice.{Choice}
 use Rattle.evaluation.specs.declared.Choice.the-variants.{Under, Nothing}
 
