@@ -1,2 +1,3 @@
 pub mod OfCheck
+pub mod OfEvaluate
 pub mod OfTranslate
