@@ -3,15 +3,16 @@ ghost use mathlib.Core.Path.{_≡_};
 ghost use lib.IntN.{natAbs};
 ghost use Rattle.table.specs.Records.{xAt};
 ghost use Rattle.layout.specs.Places.{layoutOf};
-ghost use Rattle.operations.specs.Values.{readingOf, truthOf};
+ghost use Rattle.reading.specs.Readings.{meant};
+ghost use Rattle.operations.specs.Values.{truthOf};
 ghost use Rattle.preparation.specs.Prepared.{Prepared};
 ghost use Rattle.constraints.specs.Verdicts.{byteOf, walkedAt, ConstraintAt, VerdictsOf};
-use operations::values::Reading;
-use operations::values::Value;
-use operations::values::Walked;
 use evaluator::walk::constraint;
 use layout::Layout;
 use layout::fields::name_x;
+use operations::values::Value;
+use operations::values::Walked;
+use reading::Reading;
 use table::NodeNumber;
 
 // One byte per constraint from byte 0 on, whether no integer node met was beyond the limit, and whether all bytes are 1.
@@ -44,7 +45,7 @@ pub fn constraint_value(
 ) -> Walked
     requires { ⌜ Prepared (now s) (now t) (now places) ⌝ }
     requires { ⌜ ConstraintAt (now s) p ⌝ }
-    ensures { λ r. ⌜ r ≡ walkedAt (now (s .entry)) (readingOf reading) (now (assignment .entry)) (natAbs (xAt (now (s .entry)) p)) ⌝ }
+    ensures { λ r. ⌜ r ≡ walkedAt (now (s .entry)) (meant reading) (now (assignment .entry)) (natAbs (xAt (now (s .entry)) p)) ⌝ }
 {
     let n = name_x(s, p);
     constraint(t, places, assignment, reading, NodeNumber(n as u32))
@@ -61,7 +62,7 @@ pub fn constraint_values(
 ) -> Verdicts
     requires { ⌜ Prepared (now s) (now t) (now places) ⌝ }
     requires { ⌜ at ≡ layoutOf (now s) ⌝ }
-    ensures { λ r. ⌜ VerdictsOf (now (s .entry)) (readingOf reading) (now (assignment .entry)) r ⌝ }
+    ensures { λ r. ⌜ VerdictsOf (now (s .entry)) (meant reading) (now (assignment .entry)) r ⌝ }
 {
     let mut bytes = [0u8; 5000];
     let mut all = true;

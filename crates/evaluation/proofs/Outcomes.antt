@@ -43,10 +43,6 @@ use Rattle.evaluation.specs.Admissions.{faultBefore, outcomeAfter, admis
 
 -- ---- the choice
 
-pub no-reading : (c : ℕ) → c ≢ 1 → c ≢ 2 → c ≢ 3 → none ≡ readingOf c
-unfolding readingOf
-no-reading c a b d = rw (ne-eqb c 1 a, ne-eqb c 2 b, ne-eqb c 3 d)
-
 module _ (c : ℕ) (table : List ℕ) (α : Assignment) (budget : ℕ) (lent : List ℕ) where
   -- A choice that is none: 7, and nothing is written.
   pub refused-choice : none ≡ readingOf c → outcomeOf BadChoice lent ≡ Answers.evaluate c table α budget lent

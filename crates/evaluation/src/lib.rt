@@ -9,18 +9,19 @@ ghost use Rattle.answers.specs.Check.{checkFault};
 ghost use Rattle.answers.specs.Answers as Answers;
 ghost use Rattle.answers.specs.Answers.{assignmentFault, totalCost, evaluateUnder};
 ghost use Rattle.layout.specs.Places.{layoutOf};
-ghost use Rattle.operations.specs.Values.{readingOf};
-ghost use Rattle.evaluation.specs.Choices.{chosen};
+ghost use Rattle.reading.specs.Readings.{meant};
 ghost use Rattle.evaluation.specs.Results.{outcomeOf};
 ghost use Rattle.evaluation.specs.Admissions.{faultBefore, outcomeAfter, Admits};
 use assignment::Assigned;
 use assignment::check_assignment;
 use constraints::constraint_values;
-use operations::values::Reading;
 use layout::Layout;
 use layout::find_sections;
 use preparation::fill;
 use preparation::lay_out;
+use reading::Choice;
+use reading::Reading;
+use reading::reading_of;
 use steps::total_steps;
 use verdict::Check;
 use verdict::is_sound;
@@ -49,30 +50,12 @@ pub enum Evaluation {
     BeyondLimit,
 }
 
-// The reading that a choice asks for.
-enum Choice {
-    Under(Reading),
-    Nothing,
-}
-
 // What comes before the walk: the total steps, or a refusal.
 enum Admission {
     Steps(u32),
     Unassigned(u32),
     NoRoom,
     OverBudget,
-}
-
-// "Choice 1 strict, 2 Kleene, 3 relational."
-fn reading_of(choice: u32) -> Choice
-    ensures { λ r. ⌜ chosen r ≡ Answers.readingOf choice ⌝ }
-{
-    match choice {
-        1 => Choice::Under(Reading::Strict),
-        2 => Choice::Under(Reading::Kleene),
-        3 => Choice::Under(Reading::Relational),
-        _ => Choice::Nothing,
-    }
 }
 
 // 9 and 11, for an assignment that fits.
@@ -140,7 +123,7 @@ fn evaluate_admitted(
     requires { ⌜ at ≡ layoutOf (now table) ⌝ }
     requires { ⌜ steps ≡ totalCost (now table) ⌝ }
     requires { ⌜ length (constraints (now table)) ≤ length (now verdicts) ⌝ }
-    ensures { λ r. ⌜ outcomeOf r (now (verdicts .exit)) ≡ outcomeAfter (now (table .entry)) (now (assignment .entry)) (readingOf reading) (now (verdicts .entry)) ⌝ }
+    ensures { λ r. ⌜ outcomeOf r (now (verdicts .exit)) ≡ outcomeAfter (now (table .entry)) (now (assignment .entry)) (meant reading) (now (verdicts .entry)) ⌝ }
 {
     let mut t = [0u8; 60000];
     fill(&mut t, table);
@@ -167,7 +150,7 @@ fn evaluate_under(
     budget: u32,
     verdicts: &mut [u8],
 ) -> Evaluation
-    ensures { λ r. ⌜ outcomeOf r (now (verdicts .exit)) ≡ evaluateUnder (now (table .entry)) (readingOf reading) (now (assignment .entry)) budget (now (verdicts .entry)) ⌝ }
+    ensures { λ r. ⌜ outcomeOf r (now (verdicts .exit)) ≡ evaluateUnder (now (table .entry)) (meant reading) (now (assignment .entry)) budget (now (verdicts .entry)) ⌝ }
 {
     let c = checker::check(table);
     if !is_sound(c) {

@@ -5,7 +5,8 @@ ghost use lib.ListN.{length};
 ghost use Rattle.language.specs.Readings.{strict};
 ghost use Rattle.language.specs.Meaning.{valueOf, elementValue, elementAt, arrayAt};
 ghost use Rattle.answers.specs.Sections.{elementOf, arrayOf, behindArray, rowOf};
-ghost use Rattle.operations.specs.Values.{readingOf, ofInteger};
+ghost use Rattle.reading.specs.Readings.{meant};
+ghost use Rattle.operations.specs.Values.{ofInteger};
 ghost use Rattle.evaluator.specs.Nodes.{nodesFrom};
 ghost use Rattle.evaluator.specs.Walks.{Laid, declared, settingOf, lookedUp, lookedUpTruth, leafOf};
 use crate::nodes::NODES;
@@ -15,12 +16,12 @@ use crate::records::named_x;
 use crate::records::named_y;
 use crate::records::x_at;
 use operations::truths::element_truth;
-use operations::values::Reading;
 use operations::values::Value;
 use operations::values::Walked;
 use operations::values::limited;
 use operations::values::limited_value;
 use operations::values::undefined;
+use reading::Reading;
 use table::ArrayNumber;
 use table::NodeNumber;
 use table::SlotNumber;
@@ -122,7 +123,7 @@ pub fn looked_up_truth(
     index: Walked,
 ) -> Walked
     requires { ⌜ Laid (now t) (now places) ⌝ }
-    ensures { λ r. ⌜ r ≡ lookedUpTruth (readingOf reading) (declared (now (t .entry)) (now (places .entry))) (now (assignment .entry)) (array .0) index ⌝ }
+    ensures { λ r. ⌜ r ≡ lookedUpTruth (meant reading) (declared (now (t .entry)) (now (places .entry))) (now (assignment .entry)) (array .0) index ⌝ }
 {
     let v = index.value;
     match v {

@@ -6,7 +6,8 @@ ghost use Prim.Native.Nat.{_<_};
 ghost use lib.IntN.{pos};
 ghost use lib.ListN.{replicate};
 ghost use Rattle.language.specs.Readings as readings;
-ghost use Rattle.operations.specs.Values.{readingOf, ofTruth, ofCalm};
+ghost use Rattle.reading.specs.Readings.{meant};
+ghost use Rattle.operations.specs.Values.{ofTruth, ofCalm};
 ghost use Rattle.operations.specs.Truths.{connectiveOf};
 ghost use Rattle.evaluator.specs.Walks.{Laid, Ready, nodeCount, quantifierOf, integerAt, truthAt, sumAt, quantifiedAt};
 use crate::lookups::Leaf;
@@ -36,12 +37,12 @@ use operations::truths::compare;
 use operations::truths::connect;
 use operations::truths::negation;
 use operations::values::Quantifier;
-use operations::values::Reading;
 use operations::values::Walked;
 use operations::values::limited;
 use operations::values::limited_value;
 use operations::values::of_calm;
 use operations::values::truth_of;
+use reading::Reading;
 use table::NodeNumber;
 use table::SlotNumber;
 
@@ -55,7 +56,7 @@ fn operand(
     n: NodeNumber,
 ) -> Walked
     requires { ⌜ Ready (now t) (now places) (now setting) (n .0) ⌝ }
-    ensures { λ r. ⌜ (r ≡ integerAt (readingOf reading) (now (t .entry)) (now (places .entry)) (now (assignment .entry)) (now (setting .entry)) (n .0)) × (now (setting .exit) ≡ now (setting .entry)) ⌝ }
+    ensures { λ r. ⌜ (r ≡ integerAt (meant reading) (now (t .entry)) (now (places .entry)) (now (assignment .entry)) (now (setting .entry)) (n .0)) × (now (setting .exit) ≡ now (setting .entry)) ⌝ }
 {
     match leaf_at(t, places, assignment, setting, n) {
         Leaf::Is(m) => m,
@@ -73,7 +74,7 @@ fn integer(
     n: NodeNumber,
 ) -> Walked
     requires { ⌜ Ready (now t) (now places) (now setting) (n .0) ⌝ }
-    ensures { λ r. ⌜ (r ≡ integerAt (readingOf reading) (now (t .entry)) (now (places .entry)) (now (assignment .entry)) (now (setting .entry)) (n .0)) × (now (setting .exit) ≡ now (setting .entry)) ⌝ }
+    ensures { λ r. ⌜ (r ≡ integerAt (meant reading) (now (t .entry)) (now (places .entry)) (now (assignment .entry)) (now (setting .entry)) (n .0)) × (now (setting .exit) ≡ now (setting .entry)) ⌝ }
 {
     match integer_node(t, places, n) {
         IntegerNode::Constant(v) => limited_value(true, v),
@@ -137,7 +138,7 @@ fn truth(
     n: NodeNumber,
 ) -> Walked
     requires { ⌜ Ready (now t) (now places) (now setting) (n .0) ⌝ }
-    ensures { λ r. ⌜ (r ≡ truthAt (readingOf reading) (now (t .entry)) (now (places .entry)) (now (assignment .entry)) (now (setting .entry)) (n .0)) × (now (setting .exit) ≡ now (setting .entry)) ⌝ }
+    ensures { λ r. ⌜ (r ≡ truthAt (meant reading) (now (t .entry)) (now (places .entry)) (now (assignment .entry)) (now (setting .entry)) (n .0)) × (now (setting .exit) ≡ now (setting .entry)) ⌝ }
 {
     match truth_node(t, places, n) {
         TruthNode::Constant(v) => of_calm(true, v),
@@ -227,7 +228,7 @@ fn sum(
     body: NodeNumber,
 ) -> Walked
     requires { ⌜ Ready (now t) (now places) (now setting) (body .0) ⌝ }
-    ensures { λ r. ⌜ (r ≡ sumAt (readingOf reading) (now (t .entry)) (now (places .entry)) (now (assignment .entry)) (now (setting .entry)) (s .0) (body .0)) × (now (setting .exit) ≡ now (setting .entry)) ⌝ }
+    ensures { λ r. ⌜ (r ≡ sumAt (meant reading) (now (t .entry)) (now (places .entry)) (now (assignment .entry)) (now (setting .entry)) (s .0) (body .0)) × (now (setting .exit) ≡ now (setting .entry)) ⌝ }
 {
     let range = range_of(t, places, s);
     let low = range.low;
@@ -279,7 +280,7 @@ fn quantified(
     body: NodeNumber,
 ) -> Walked
     requires { ⌜ Ready (now t) (now places) (now setting) (body .0) ⌝ }
-    ensures { λ r. ⌜ (r ≡ quantifiedAt (readingOf reading) (now (t .entry)) (now (places .entry)) (now (assignment .entry)) (now (setting .entry)) (quantifierOf q) (s .0) (body .0)) × (now (setting .exit) ≡ now (setting .entry)) ⌝ }
+    ensures { λ r. ⌜ (r ≡ quantifiedAt (meant reading) (now (t .entry)) (now (places .entry)) (now (assignment .entry)) (now (setting .entry)) (quantifierOf q) (s .0) (body .0)) × (now (setting .exit) ≡ now (setting .entry)) ⌝ }
 {
     let range = range_of(t, places, s);
     let low = range.low;
@@ -308,7 +309,7 @@ pub fn constraint(
     n: NodeNumber,
 ) -> Walked
     requires { ⌜ Laid (now t) (now places) × (n .0 < nodeCount (now places)) ⌝ }
-    ensures { λ r. ⌜ r ≡ truthAt (readingOf reading) (now (t .entry)) (now (places .entry)) (now (assignment .entry)) (replicate 16 (pos 0)) (n .0) ⌝ }
+    ensures { λ r. ⌜ r ≡ truthAt (meant reading) (now (t .entry)) (now (places .entry)) (now (assignment .entry)) (replicate 16 (pos 0)) (n .0) ⌝ }
 {
     let mut setting = [0i32; 16];
     truth(t, places, assignment, &mut setting, reading, n)

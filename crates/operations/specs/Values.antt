@@ -4,18 +4,10 @@
 use mathlib.Core.Bool.{Bool, true, false, _&&_}
 use mathlib.Core.Option.{Option, none, some}
 use lib.IntN.{ℤ}
-use Rattle.language.specs.Readings as readings
 use Rattle.language.specs.Meaning.{calmValue}
 use Rattle.operations.specs.declared.values.Value.{Value}
 use Rattle.operations.specs.declared.values.Value.the-variants.{Integer, Truth, Undefined}
 use Rattle.operations.specs.declared.values.Walked.{Walked}
-use Rattle.operations.specs.declared.values.Reading.{Reading}
-use Rattle.operations.specs.declared.values.Reading.the-variants.{Strict, Kleene, Relational}
-
-abbrev pub readingOf : Reading → readings.Reading
-readingOf Strict = readings.strict
-readingOf Kleene = readings.kleene
-readingOf Relational = readings.relational
 
 -- a value as the code has it
 abbrev pub ofInteger : Option ℤ → Value

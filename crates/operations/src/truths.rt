@@ -4,15 +4,16 @@ ghost use mathlib.Core.Bool.{Bool};
 ghost use mathlib.Core.Option.{Option, none, Option·map};
 ghost use Rattle.language.specs.Readings as readings;
 ghost use Rattle.language.specs.Meaning.{isOne};
-ghost use Rattle.operations.specs.Values.{readingOf, integerOf, truthOf, truthTo};
+ghost use Rattle.reading.specs.Readings.{meant};
+ghost use Rattle.operations.specs.Values.{integerOf, truthOf, truthTo};
 ghost use Rattle.operations.specs.Truths.{comparisonOf, connectiveOf, levelOf, levelled, compared, connected, opposed};
 use crate::integers::Operands;
 use crate::integers::integers_of;
-use crate::values::Reading;
 use crate::values::Value;
 use crate::values::Walked;
 use crate::values::truth_of;
 use crate::values::undefined;
+use reading::Reading;
 
 pub enum Comparison {
     Equal,
@@ -61,7 +62,7 @@ fn at_level(calm: bool, l: u8) -> Walked
 
 // The level of a comparison or a Boolean lookup that lacks an operand, or whose index is outside.
 fn open_level(reading: Reading) -> u8
-    ensures { λ r. ⌜ r ≡ levelOf (readings.closed (readingOf reading) none) ⌝ }
+    ensures { λ r. ⌜ r ≡ levelOf (readings.closed (meant reading) none) ⌝ }
 {
     match reading {
         Reading::Strict => UNDEFINED,
@@ -82,7 +83,7 @@ fn holds(c: Comparison, x: i32, y: i32) -> bool
 }
 
 pub fn compare(reading: Reading, c: Comparison, a: Walked, b: Walked) -> Walked
-    ensures { λ r. ⌜ r ≡ compared (readingOf reading) (comparisonOf c) a b ⌝ }
+    ensures { λ r. ⌜ r ≡ compared (meant reading) (comparisonOf c) a b ⌝ }
 {
     match integers_of(a, b) {
         Operands::Both(x, y) => truth_of(true, holds(c, x, y)),
@@ -92,7 +93,7 @@ pub fn compare(reading: Reading, c: Comparison, a: Walked, b: Walked) -> Walked
 
 // A Boolean lookup whose element was found, or not: 1 is true.
 pub fn element_truth(reading: Reading, calm: bool, element: Value) -> Walked
-    ensures { λ r. ⌜ r ≡ truthTo calm (readings.closed (readingOf reading) (Option·map isOne (integerOf element))) ⌝ }
+    ensures { λ r. ⌜ r ≡ truthTo calm (readings.closed (meant reading) (Option·map isOne (integerOf element))) ⌝ }
 {
     match element {
         Value::Integer(x) => truth_of(calm, x == 1),
@@ -172,7 +173,7 @@ fn joined_strictly(c: Connective, x: u8, y: u8) -> u8
 }
 
 fn joined_under(reading: Reading, c: Connective, x: u8, y: u8) -> u8
-    ensures { λ r. ⌜ ((u v : Option Bool) → x ≡ levelOf u → y ≡ levelOf v → r ≡ levelOf (readings.connective (readingOf reading) (connectiveOf c) u v)) ⌝ }
+    ensures { λ r. ⌜ ((u v : Option Bool) → x ≡ levelOf u → y ≡ levelOf v → r ≡ levelOf (readings.connective (meant reading) (connectiveOf c) u v)) ⌝ }
 {
     match reading {
         Reading::Strict => joined_strictly(c, x, y),
@@ -182,7 +183,7 @@ fn joined_under(reading: Reading, c: Connective, x: u8, y: u8) -> u8
 }
 
 pub fn connect(reading: Reading, c: Connective, a: Walked, b: Walked) -> Walked
-    ensures { λ r. ⌜ r ≡ connected (readingOf reading) (connectiveOf c) a b ⌝ }
+    ensures { λ r. ⌜ r ≡ connected (meant reading) (connectiveOf c) a b ⌝ }
 {
     let l = joined_under(reading, c, level(a), level(b));
     if a.calm {

@@ -17,13 +17,6 @@ pub struct Walked {
     pub calm: bool,
 }
 
-// "Choice 1 strict, 2 Kleene, 3 relational."
-pub enum Reading {
-    Strict,
-    Kleene,
-    Relational,
-}
-
 pub enum Quantifier {
     Exists,
     Forall,

@@ -30,17 +30,13 @@ use Rattle.verdict.proofs.Soundness.{sound-none, unsound-some}
 use Rattle.verdict.specs.Results.{isNone}
 use Rattle.verdict.specs.declared.Check.{Check}
 use Rattle.verdict.specs.Results as Verdict
-use Rattle.translation.specs.declared.Choice.{Choice}
+use Rattle.reading.specs.declared.Choice.{Choice}
 use Rattle.translation.specs.declared.Translation.{Translation}
 use Rattle.translation.specs.declared.Translation.the-variants.{Done, BadChoice, Unsound, Beyond, NoRoom}
-use Rattle.translation.specs.Choices.{chosen}
+use Rattle.reading.specs.Readings.{chosen}
 use Rattle.translation.specs.Results.{recordBeyond, answerOf, outcomeOf}
 
 -- ---- the choice
-
-pub no-reading : (c : ℕ) → c ≢ 1 → c ≢ 2 → c ≢ 3 → none ≡ readingOf c
-unfolding readingOf
-no-reading c a b d = rw (ne-eqb c 1 a, ne-eqb c 2 b, ne-eqb c 3 d)
 
 -- A choice that is none: 7, and nothing is written.
 pub refused-choice : (c : ℕ) (table lent : List ℕ) → none ≡ readingOf c → outcomeOf BadChoice lent ≡ Answers.translate c table lent

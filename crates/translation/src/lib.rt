@@ -12,21 +12,22 @@ ghost use Rattle.table.specs.Records.{recordSize};
 ghost use Rattle.answers.specs.Sections.{nodesAt};
 ghost use Rattle.answers.specs.Check.{checkFault};
 ghost use Rattle.answers.specs.Answers as Answers;
-ghost use Rattle.answers.specs.Answers.{readingOf, newCount, translation, translateUnder};
+ghost use Rattle.answers.specs.Answers.{newCount, translation, translateUnder};
 ghost use Rattle.verdict.specs.Results.{isNone};
 ghost use Rattle.bounds.specs.Kept.{refusalOf};
 ghost use Rattle.layout.specs.Passed.{Passed};
 ghost use Rattle.layout.specs.Places.{layoutOf};
-ghost use Rattle.translator.specs.Readings.{meant};
-ghost use Rattle.translation.specs.Choices.{chosen};
+ghost use Rattle.reading.specs.Readings.{meant};
 ghost use Rattle.translation.specs.Results.{recordBeyond, outcomeOf};
 ghost use Rattle.translation.specs.Fronts.{front};
 use bounds::Bounds;
 use bounds::check_bounds;
 use layout::Layout;
 use layout::find_sections;
+use reading::Choice;
+use reading::Reading;
+use reading::reading_of;
 use table::RECORD_SIZE;
-use translator::Reading;
 use translator::new_records;
 use translator::writer::put_record;
 use verdict::Check;
@@ -47,24 +48,6 @@ pub enum Translation {
     Beyond(u32),
     // "output longer than the buffer, or a translation beyond 60,000 bytes"
     NoRoom,
-}
-
-// The reading that a choice asks for.
-enum Choice {
-    Under(Reading),
-    Nothing,
-}
-
-// "Choice 1 strict, 2 Kleene, 3 relational."
-fn reading_of(choice: u32) -> Choice
-    ensures { λ r. ⌜ chosen r ≡ readingOf choice ⌝ }
-{
-    match choice {
-        1 => Choice::Under(Reading::Strict),
-        2 => Choice::Under(Reading::Kleene),
-        3 => Choice::Under(Reading::Relational),
-        _ => Choice::Nothing,
-    }
 }
 
 // Copies the bytes from `from` up to `end` to the same places.

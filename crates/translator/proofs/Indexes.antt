@@ -5,9 +5,9 @@ use Prim.Native.Nat.{ℕ, _+_, _*_, _<_}
 use native.Mathlib.Omega.{arith}
 use borrow.Author.Tests.{lt-ltb}
 use Rattle.translator.specs.Plans.{readingNumber, planIndex}
-use Rattle.translator.specs.Readings.{meant}
-use Rattle.translator.specs.declared.Reading.{Reading}
-use Rattle.translator.specs.declared.Reading.the-variants.{Strict, Kleene, Relational}
+use Rattle.reading.specs.Readings.{meant}
+use Rattle.reading.specs.declared.Reading.{Reading}
+use Rattle.reading.specs.declared.Reading.the-variants.{Strict, Kleene, Relational}
 
 module _ (r : Reading) (k : ℕ) (h : k < 31) where
   pub index-strict : r ≡ Strict → 4 * k ≡ planIndex (meant r) k

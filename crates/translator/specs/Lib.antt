@@ -1,4 +1,3 @@
 pub mod Cells
 pub mod Plans
-pub mod Readings
 pub mod Words

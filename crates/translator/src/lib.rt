@@ -5,21 +5,15 @@ ghost use Rattle.answers.specs.Answers.{newCount};
 ghost use Rattle.layout.specs.Passed.{Passed};
 ghost use Rattle.layout.specs.Places.{layoutOf};
 ghost use Rattle.translator.specs.Plans.{planIndex};
-ghost use Rattle.translator.specs.Readings.{meant};
+ghost use Rattle.reading.specs.Readings.{meant};
 use crate::tables::PLANS;
 use layout::Layout;
 use layout::fields::kind_at;
+use reading::Reading;
 
 pub mod rows;
 pub mod tables;
 pub mod writer;
-
-// How undefined values are read.
-pub enum Reading {
-    Strict,
-    Kleene,
-    Relational,
-}
 
 // Where the plan of a kind begins under a reading.
 fn plan_index(reading: Reading, kind: u8) -> usize

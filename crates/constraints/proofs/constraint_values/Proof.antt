@@ -8,13 +8,13 @@ use borrow.Author.Tests.{not-true, not-false}
 use Rattle.answers.specs.Sections.{constraintCount}
 use Rattle.layout.proofs.Checked.{checked}
 use Rattle.layout.proofs.Order.{laid}
-use Rattle.operations.specs.Values.{readingOf}
+use Rattle.reading.specs.Readings.{meant}
 use Rattle.constraints.proofs.Walking.{Walked-so-far, few-constraints, walked-none, walked-more, walked-beyond, walked-all}
 use Rattle.constraints.proofs.constraint_values.Statement.{statement}
 use Rattle.constraints.proofs.constraint_values.Tie as tie
 
 abbrev Inv-loop : tie.InvT-loop
-Inv-loop s t places assignment reading bytes₀ all₀ first count i₀ bytes all i = Walked-so-far s (readingOf reading) assignment bytes all i × (i ≤ count)
+Inv-loop s t places assignment reading bytes₀ all₀ first count i₀ bytes all i = Walked-so-far s (meant reading) assignment bytes all i × (i ≤ count)
 
 abbrev μ-loop : tie.MeasureT-loop
 μ-loop s t places assignment reading bytes₀ all₀ first count i₀ bytes all i = count - i

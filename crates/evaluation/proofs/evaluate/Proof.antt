@@ -2,7 +2,7 @@
 -- Assumes nothing.
 use mathlib.Core.Path.{sym, ap, _∙_}
 use borrow.Author.Needs.{needs}
-use Rattle.evaluation.specs.Choices.{chosen}
+use Rattle.reading.specs.Readings.{chosen}
 use Rattle.evaluation.proofs.Outcomes.{under-reading, refused-choice}
 use Rattle.evaluation.proofs.evaluate.Statement.{statement}
 use Rattle.evaluation.proofs.evaluate.Tie as tie

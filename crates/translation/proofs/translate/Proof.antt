@@ -2,7 +2,7 @@
 -- Assumes nothing.
 use mathlib.Core.Path.{refl, sym, ap, _∙_}
 use borrow.Author.Needs.{needs}
-use Rattle.translation.specs.Choices.{chosen}
+use Rattle.reading.specs.Readings.{chosen}
 use Rattle.translation.proofs.Outcomes.{refused-choice, under-reading}
 use Rattle.translation.proofs.translate.Statement.{statement}
 use Rattle.translation.proofs.translate.Tie as tie

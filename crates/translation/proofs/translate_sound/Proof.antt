@@ -7,7 +7,7 @@ use lib.ListN.{length}
 use Rattle.table.specs.Records.{recordSize}
 use Rattle.layout.proofs.Checked.{checked}
 use Rattle.verdict.proofs.Soundness.{sound-none}
-use Rattle.translator.specs.Readings.{meant}
+use Rattle.reading.specs.Readings.{meant}
 use Rattle.translation.proofs.Outcomes.{room-given, size-given, beyond-is, beyond-within, refused-bounds, refused-room, written}
 use Rattle.translation.proofs.Wholes.{length-new}
 use Rattle.translation.proofs.translate_sound.Statement.{statement}

@@ -1,6 +1,6 @@
 -- `translation::translate_under` meets its contract.
 -- Assumes nothing.
-use Rattle.translator.specs.Readings.{meant}
+use Rattle.reading.specs.Readings.{meant}
 use Rattle.translation.proofs.Outcomes.{sound→checked, refused-check}
 use Rattle.translation.proofs.translate_under.Statement.{statement}
 use Rattle.translation.proofs.translate_under.Tie as tie

@@ -4,7 +4,7 @@ use mathlib.Core.Path.{refl, sym, ap, _∙_}
 use native.Mathlib.Omega.{arith}
 use Prim.Native.Nat.{_*_}
 use Rattle.table.specs.Records.{recordSize}
-use Rattle.translator.specs.Readings.{meant}
+use Rattle.reading.specs.Readings.{meant}
 use Rattle.layout.proofs.Checked.{checked}
 use Rattle.translation.proofs.Wholes.{nodes-within-new, whole-stores}
 use Rattle.translation.proofs.write.Statement.{statement}

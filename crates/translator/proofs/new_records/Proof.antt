@@ -1,7 +1,7 @@
 -- `translator::new_records` meets its contract.
 -- Assumes nothing.
 use Rattle.translator.proofs.States.{state, state-zero, length-state-suc, new-count}
-use Rattle.translator.specs.Readings.{meant}
+use Rattle.reading.specs.Readings.{meant}
 use Rattle.translator.specs.Plans.{rulePlans, planIndex, planAt}
 use Rattle.layout.proofs.Order.{laid}
 use Rattle.layout.proofs.Runs.{within-table}

@@ -12,7 +12,7 @@ use Rattle.layout.proofs.Order.{laid}
 use Rattle.layout.proofs.Runs.{within-table}
 use Rattle.translator.specs.Cells.{place}
 use Rattle.translator.specs.Plans.{ruleRows, rulePlans, readingNumber, planAt}
-use Rattle.translator.specs.Readings.{meant}
+use Rattle.reading.specs.Readings.{meant}
 use Rattle.writing.proofs.Known.{known-arrays}
 use Rattle.writing.proofs.Standing.{Standing, standing-none, standing-more, standing-all, planned, rows-within}
 use Rattle.writing.proofs.Turns.{Turn, turn, constraints-fit, next-small}

@@ -14,7 +14,8 @@ use Rattle.language.specs.Readings.{closed}
 use Rattle.language.specs.Meaning.{Assignment, arrayAt, elementAt, isOne}
 use Rattle.operations.specs.declared.values.Value.{Value}
 use Rattle.operations.specs.declared.values.Walked.{Walked}
-use Rattle.operations.specs.Values.{readingOf, integerOf, ofInteger, truthTo}
+use Rattle.reading.specs.Readings.{meant}
+use Rattle.operations.specs.Values.{integerOf, ofInteger, truthTo}
 use Rattle.evaluator.specs.Walks.{declared, lookedUpTruth}
 use Rattle.operations.proofs.Pairs.{integerOf-ofInteger}
 use Rattle.evaluator.proofs.lookups.looked_up_truth.Statement.{statement}
@@ -57,19 +58,19 @@ returns c =
     let z = c .before .before .before .v .given .0 .0 in
     let f : SFits w32 z = search needs in
     c .element-truth .ensures
-    ∙ found (readingOf (s .reading)) (declared (s .t .now) (s .places .now)) (s .assignment .now) (s .array .0) (s .index) f (ap integerOf (c .before .before .before .v .given .1)) (c .before .element .ensures)
+    ∙ found (meant (s .reading)) (declared (s .t .now) (s .places .now)) (s .assignment .now) (s .array .0) (s .index) f (ap integerOf (c .before .before .before .v .given .1)) (c .before .element .ensures)
 
 returns-2 : tie.Need-returns-2
 returns-2 c =
     let s = c .before .before .before .args in
     c .element-truth2 .ensures
-    ∙ no-index (readingOf (s .reading)) (declared (s .t .now) (s .places .now)) (s .assignment .now) (s .array .0) (s .index) (ap integerOf (c .before .enum-told .given .1))
+    ∙ no-index (meant (s .reading)) (declared (s .t .now) (s .places .now)) (s .assignment .now) (s .array .0) (s .index) (ap integerOf (c .before .enum-told .given .1))
 
 returns-3 : tie.Need-returns-3
 returns-3 c =
     let s = c .before .before .before .args in
     c .element-truth3 .ensures
-    ∙ no-index (readingOf (s .reading)) (declared (s .t .now) (s .places .now)) (s .assignment .now) (s .array .0) (s .index) (ap integerOf (c .before .enum-told2 .given .1))
+    ∙ no-index (meant (s .reading)) (declared (s .t .now) (s .places .now)) (s .assignment .now) (s .array .0) (s .index) (ap integerOf (c .before .enum-told2 .given .1))
 
 pub looked-up-truth-spec : {M : Type 1} → statement M
 looked-up-truth-spec =

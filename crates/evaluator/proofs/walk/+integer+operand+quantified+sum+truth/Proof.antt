@@ -20,7 +20,8 @@ use Rattle.language.specs.Meaning.{isOne}
 use Rattle.operations.specs.declared.values.Walked.{Walked}
 use Rattle.operations.specs.declared.sums.Total.{Total}
 use Rattle.operations.specs.declared.values.Value.the-variants.{Truth}
-use Rattle.operations.specs.Values.{readingOf, ofCalm}
+use Rattle.reading.specs.Readings.{meant}
+use Rattle.operations.specs.Values.{ofCalm}
 use Rattle.operations.specs.Integers.{integers, negated, numbered}
 use Rattle.operations.specs.Truths.{compared, connected, opposed}
 use Rattle.evaluator.specs.Walks.{Ready, quantifierOf, declared, integerAt, truthAt, lookedUp, lookedUpTruth}
@@ -378,28 +379,28 @@ integer-sum-requires t c κs =
 integer-returns : (t : ℕ) → integer-lts.Need-returns (integer-calls t) (integer-at t) integer.Post
 integer-returns t c =
     let s = c .before .before .before .before .before in
-    let ρ = readingOf (s .args .reading) in
+    let ρ = meant (s .args .reading) in
     let α = s .args .assignment .now in
     (c .limited-value .ensures ∙ integer-case (s .pre .1) ρ α (c .before .before .before .before .integer-node .ensures) (c .before .before .v .given .1), refl)
 
 integer-returns-2 : (t : ℕ) → integer-lts.Need-returns-2 (integer-calls t) (integer-at t) integer.Post
 integer-returns-2 t c =
     let s = c .before .before .before .before .before .before in
-    let ρ = readingOf (s .args .reading) in
+    let ρ = meant (s .args .reading) in
     let α = s .args .assignment .now in
     (of-leaf (sfits-of (c .before .variable .ok)) (c .before .variable .ensures) (c .limited .ensures) (integer-case (s .pre .1) ρ α (c .before .before .before .before .before .integer-node .ensures) (c .before .before .before .v2 .given .1)), refl)
 
 integer-returns-3 : (t : ℕ) → integer-lts.Need-returns-3 (integer-calls t) (integer-at t) integer.Post
 integer-returns-3 t c =
     let s = c .before .before .before .before .before .before .before in
-    let ρ = readingOf (s .args .reading) in
+    let ρ = meant (s .args .reading) in
     let α = s .args .assignment .now in
     (of-leaf (sfits-of (c .before .slot .ok)) (c .before .slot .ensures) (c .limited2 .ensures) (integer-case (s .pre .1) ρ α (c .before .before .before .before .before .before .integer-node .ensures) (c .before .before .before .before .s .given .1)), refl)
 
 integer-returns-4 : (t : ℕ) → integer-lts.Need-returns-4 (integer-calls t) (integer-at t) integer.Post
 integer-returns-4 t c =
     let s = c .before .before .before .before .before .before .before .before .before in
-    let ρ = readingOf (s .args .reading) in
+    let ρ = meant (s .args .reading) in
     let α = s .args .assignment .now in (
       of-two (integers (λ x y. some (arithmetic syntax.plus x y))) (integerAt ρ (s .args .t .now) (s .args .places .now) α) (c .calculate .ensures) (c .before .before .before .operand .ensures .0) (c .before .before .before .operand .ensures .1) (c .before .operand2 .ensures .0)
           (integer-case (s .pre .1) ρ α (c .before .before .before .before .before .before .before .before .integer-node .ensures) (c .before .before .before .before .before .before .a .given .1)),
@@ -409,7 +410,7 @@ integer-returns-4 t c =
 integer-returns-5 : (t : ℕ) → integer-lts.Need-returns-5 (integer-calls t) (integer-at t) integer.Post
 integer-returns-5 t c =
     let s = c .before .before .before .before .before .before .before .before .before in
-    let ρ = readingOf (s .args .reading) in
+    let ρ = meant (s .args .reading) in
     let α = s .args .assignment .now in (
       of-two (integers (λ x y. some (arithmetic syntax.minus x y))) (integerAt ρ (s .args .t .now) (s .args .places .now) α) (c .calculate2 .ensures) (c .before .before .before .operand3 .ensures .0) (c .before .before .before .operand3 .ensures .1) (c .before .operand4 .ensures .0)
           (integer-case (s .pre .1) ρ α (c .before .before .before .before .before .before .before .before .integer-node .ensures) (c .before .before .before .before .before .before .a2 .given .1)),
@@ -419,7 +420,7 @@ integer-returns-5 t c =
 integer-returns-6 : (t : ℕ) → integer-lts.Need-returns-6 (integer-calls t) (integer-at t) integer.Post
 integer-returns-6 t c =
     let s = c .before .before .before .before .before .before .before .before .before in
-    let ρ = readingOf (s .args .reading) in
+    let ρ = meant (s .args .reading) in
     let α = s .args .assignment .now in (
       of-two (integers (λ x y. some (arithmetic syntax.times x y))) (integerAt ρ (s .args .t .now) (s .args .places .now) α) (c .calculate3 .ensures) (c .before .before .before .operand5 .ensures .0) (c .before .before .before .operand5 .ensures .1) (c .before .operand6 .ensures .0)
           (integer-case (s .pre .1) ρ α (c .before .before .before .before .before .before .before .before .integer-node .ensures) (c .before .before .before .before .before .before .a3 .given .1)),
@@ -429,7 +430,7 @@ integer-returns-6 t c =
 integer-returns-7 : (t : ℕ) → integer-lts.Need-returns-7 (integer-calls t) (integer-at t) integer.Post
 integer-returns-7 t c =
     let s = c .before .before .before .before .before .before .before .before .before in
-    let ρ = readingOf (s .args .reading) in
+    let ρ = meant (s .args .reading) in
     let α = s .args .assignment .now in (
       of-two (integers (division syntax.quot)) (integerAt ρ (s .args .t .now) (s .args .places .now) α) (c .divide .ensures) (c .before .before .before .operand7 .ensures .0) (c .before .before .before .operand7 .ensures .1) (c .before .operand8 .ensures .0)
           (integer-case (s .pre .1) ρ α (c .before .before .before .before .before .before .before .before .integer-node .ensures) (c .before .before .before .before .before .before .a4 .given .1)),
@@ -439,7 +440,7 @@ integer-returns-7 t c =
 integer-returns-8 : (t : ℕ) → integer-lts.Need-returns-8 (integer-calls t) (integer-at t) integer.Post
 integer-returns-8 t c =
     let s = c .before .before .before .before .before .before .before .before .before in
-    let ρ = readingOf (s .args .reading) in
+    let ρ = meant (s .args .reading) in
     let α = s .args .assignment .now in (
       of-two (integers (division syntax.rem)) (integerAt ρ (s .args .t .now) (s .args .places .now) α) (c .divide2 .ensures) (c .before .before .before .operand9 .ensures .0) (c .before .before .before .operand9 .ensures .1) (c .before .operand10 .ensures .0)
           (integer-case (s .pre .1) ρ α (c .before .before .before .before .before .before .before .before .integer-node .ensures) (c .before .before .before .before .before .before .a5 .given .1)),
@@ -449,14 +450,14 @@ integer-returns-8 t c =
 integer-returns-9 : (t : ℕ) → integer-lts.Need-returns-9 (integer-calls t) (integer-at t) integer.Post
 integer-returns-9 t c =
     let s = c .before .before .before .before .before .before .before in
-    let ρ = readingOf (s .args .reading) in
+    let ρ = meant (s .args .reading) in
     let α = s .args .assignment .now in
     (of-one (negated) (c .negate .ensures) (c .before .operand11 .ensures .0) (integer-case (s .pre .1) ρ α (c .before .before .before .before .before .before .integer-node .ensures) (c .before .before .before .before .a6 .given .1)), c .before .operand11 .ensures .1)
 
 integer-returns-10 : (t : ℕ) → integer-lts.Need-returns-10 (integer-calls t) (integer-at t) integer.Post
 integer-returns-10 t c =
     let s = c .before .before .before .before .before .before .before .before .before in
-    let ρ = readingOf (s .args .reading) in
+    let ρ = meant (s .args .reading) in
     let α = s .args .assignment .now in (
       of-two (integers (λ x y. some (arithmetic syntax.least x y))) (integerAt ρ (s .args .t .now) (s .args .places .now) α) (c .calculate4 .ensures) (c .before .before .before .operand12 .ensures .0) (c .before .before .before .operand12 .ensures .1) (c .before .operand13 .ensures .0)
           (integer-case (s .pre .1) ρ α (c .before .before .before .before .before .before .before .before .integer-node .ensures) (c .before .before .before .before .before .before .a7 .given .1)),
@@ -466,7 +467,7 @@ integer-returns-10 t c =
 integer-returns-11 : (t : ℕ) → integer-lts.Need-returns-11 (integer-calls t) (integer-at t) integer.Post
 integer-returns-11 t c =
     let s = c .before .before .before .before .before .before .before .before .before in
-    let ρ = readingOf (s .args .reading) in
+    let ρ = meant (s .args .reading) in
     let α = s .args .assignment .now in (
       of-two (integers (λ x y. some (arithmetic syntax.most x y))) (integerAt ρ (s .args .t .now) (s .args .places .now) α) (c .calculate5 .ensures) (c .before .before .before .operand14 .ensures .0) (c .before .before .before .operand14 .ensures .1) (c .before .operand15 .ensures .0)
           (integer-case (s .pre .1) ρ α (c .before .before .before .before .before .before .before .before .integer-node .ensures) (c .before .before .before .before .before .before .a8 .given .1)),
@@ -476,21 +477,21 @@ integer-returns-11 t c =
 integer-returns-12 : (t : ℕ) → integer-lts.Need-returns-12 (integer-calls t) (integer-at t) integer.Post
 integer-returns-12 t c =
     let s = c .before .before .before .before .before .before .before in
-    let ρ = readingOf (s .args .reading) in
+    let ρ = meant (s .args .reading) in
     let α = s .args .assignment .now in
     (of-one (numbered) (c .number .ensures) (c .before .truth .ensures .0) (integer-case (s .pre .1) ρ α (c .before .before .before .before .before .before .integer-node .ensures) (c .before .before .before .before .a9 .given .1)), c .before .truth .ensures .1)
 
 integer-returns-13 : (t : ℕ) → integer-lts.Need-returns-13 (integer-calls t) (integer-at t) integer.Post
 integer-returns-13 t c =
     let s = c .before .before .before .before .before .before .before in
-    let ρ = readingOf (s .args .reading) in
+    let ρ = meant (s .args .reading) in
     let α = s .args .assignment .now in
     (of-one (lookedUp readings.strict (declared (s .args .t .now) (s .args .places .now)) α (c .before .before .before .before .a10 .given .0 .0 .0)) (c .looked-up .ensures) (c .before .operand16 .ensures .0) (integer-case (s .pre .1) ρ α (c .before .before .before .before .before .before .integer-node .ensures) (c .before .before .before .before .a10 .given .1)), c .before .operand16 .ensures .1)
 
 integer-returns-14 : (t : ℕ) → integer-lts.Need-returns-14 (integer-calls t) (integer-at t) integer.Post
 integer-returns-14 t c =
     let s = c .before .before .before .before .before .before in
-    let ρ = readingOf (s .args .reading) in
+    let ρ = meant (s .args .reading) in
     let α = s .args .assignment .now in
     (c .sum .ensures .0 ∙ integer-case (s .pre .1) ρ α (c .before .before .before .before .before .integer-node .ensures) (c .before .before .before .s2 .given .1), c .sum .ensures .1)
 
@@ -511,14 +512,14 @@ operand-integer-requires t c κs =
 operand-returns : (t : ℕ) → operand-lts.Need-returns (operand-calls t) (operand-at t) operand.Post
 operand-returns t c =
     let s = c .before .before .before .before .before in
-    (leaf-case (s .pre .1) (readingOf (s .args .reading)) (s .args .assignment .now) (c .before .before .before .leaf-at .ensures) (c .before .m .given .1), refl)
+    (leaf-case (s .pre .1) (meant (s .args .reading)) (s .args .assignment .now) (c .before .before .before .leaf-at .ensures) (c .before .m .given .1), refl)
 
 operand-returns-2 : (t : ℕ) → operand-lts.Need-returns-2 (operand-calls t) (operand-at t) operand.Post
 operand-returns-2 t c = c .integer .ensures
 
 abbrev quantified-Inv-loop : quantified-lts.InvT-loop
 quantified-Inv-loop t places assignment setting₀ reading q body low count i outer joint₀ k₀ setting joint k =
-    Joined (readingOf reading) t places assignment setting₀ (quantifierOf q) i (body .0) count k setting joint
+    Joined (meant reading) t places assignment setting₀ (quantifierOf q) i (body .0) count k setting joint
 
 abbrev quantified-μ-loop : quantified-lts.MeasureT-loop
 quantified-μ-loop t places assignment setting₀ reading q body low count i outer joint₀ k₀ setting joint k = count - k
@@ -533,7 +534,7 @@ quantified-returns : (t : ℕ) → quantified-lts.Need-returns (quantified-calls
 quantified-returns t c =
     let s = c .before .before .before .before in
     let e = c .before .before .before .range-of .ensures in
-    (joint-done (readingOf (s .args .reading)) (s .args .t .now) (s .args .places .now) (s .args .assignment .now) (s .args .setting .now) (s .args .s .0) (s .args .body .0) (quantifierOf (s .args .q)) 0 (c .empty .ensures ∙ joint-none (readingOf (s .args .reading)) (s .args .t .now) (s .args .places .now) (s .args .assignment .now) (s .args .setting .now) (quantifierOf (s .args .q)) (s .args .s .0) (s .args .body .0)) e (sym (c .before .if1 .taken)), refl)
+    (joint-done (meant (s .args .reading)) (s .args .t .now) (s .args .places .now) (s .args .assignment .now) (s .args .setting .now) (s .args .s .0) (s .args .body .0) (quantifierOf (s .args .q)) 0 (c .empty .ensures ∙ joint-none (meant (s .args .reading)) (s .args .t .now) (s .args .places .now) (s .args .assignment .now) (s .args .setting .now) (quantifierOf (s .args .q)) (s .args .s .0) (s .args .body .0)) e (sym (c .before .if1 .taken)), refl)
 
 quantified-cast-i : (t : ℕ) → quantified-lts.Need-cast-i (quantified-calls t) (quantified-at t) quantified.Post quantified-Inv-loop quantified-μ-loop
 quantified-cast-i t c = search needs
@@ -557,7 +558,7 @@ quantified-loop-holds : (t : ℕ) → quantified-lts.Need-loop-holds (quantified
 quantified-loop-holds t c =
     let s = c .before .before .before .before .before .before in
     let e = c .before .before .before .before .before .range-of .ensures in
-    record { within = omega arith; kept = refl; is = c .empty2 .ensures ∙ joint-none (readingOf (s .args .reading)) (s .args .t .now) (s .args .places .now) (s .args .assignment .now) (s .args .setting .now) (quantifierOf (s .args .q)) (s .args .s .0) (s .args .body .0) }
+    record { within = omega arith; kept = refl; is = c .empty2 .ensures ∙ joint-none (meant (s .args .reading)) (s .args .t .now) (s .args .places .now) (s .args .assignment .now) (s .args .setting .now) (quantifierOf (s .args .q)) (s .args .s .0) (s .args .body .0) }
 
 quantified-value-in-requires : (t : ℕ) → quantified-lts.Need-value-in-requires (quantified-calls t) (quantified-at t) quantified.Post quantified-Inv-loop quantified-μ-loop
 quantified-value-in-requires t c κs =
@@ -618,18 +619,18 @@ quantified-loop-again t c =
     record {
       within = omega (arith, c .before .before .before .before .before .loop-test .taken);
       kept = restored (s .args .setting .now) (s .args .s .0) _ (search needs) (c .before .before .before .before .before .before .loop .inv .kept) (c .before .before .truth .ensures .1);
-      is = joint-turn (readingOf (s .args .reading)) (s .args .t .now) (s .args .places .now) (s .args .assignment .now) (s .args .setting .now) (s .args .s .0) (s .args .body .0) (quantifierOf (s .args .q)) (c .before .before .before .before .before .before .loop .k) (subst (λ n. s .args .s .0 < n) (sym (s .pre .1 .wide)) (slot-in (s .pre .1 .laid) (s .args .s .0) e (c .before .before .before .before .before .before .before .before .before .before .if1 .left))) (c .before .before .before .before .before .before .loop .inv .is) (c .before .before .before .before .before .before .loop .inv .kept) (value-is (s .pre .1 .laid) (s .args .s .0) e (c .before .before .before .before .before .before .loop .k) (search needs) (sfits-of (c .before .before .before .before .value-in .ok)) (c .before .before .before .before .value-in .ensures)) (c .before .before .truth .ensures .0) (c .before .joins .ensures) (c .connect .ensures);
+      is = joint-turn (meant (s .args .reading)) (s .args .t .now) (s .args .places .now) (s .args .assignment .now) (s .args .setting .now) (s .args .s .0) (s .args .body .0) (quantifierOf (s .args .q)) (c .before .before .before .before .before .before .loop .k) (subst (λ n. s .args .s .0 < n) (sym (s .pre .1 .wide)) (slot-in (s .pre .1 .laid) (s .args .s .0) e (c .before .before .before .before .before .before .before .before .before .before .if1 .left))) (c .before .before .before .before .before .before .loop .inv .is) (c .before .before .before .before .before .before .loop .inv .kept) (value-is (s .pre .1 .laid) (s .args .s .0) e (c .before .before .before .before .before .before .loop .k) (search needs) (sfits-of (c .before .before .before .before .value-in .ok)) (c .before .before .before .before .value-in .ensures)) (c .before .before .truth .ensures .0) (c .before .joins .ensures) (c .connect .ensures);
     }
 
 quantified-returns-2 : (t : ℕ) → quantified-lts.Need-returns-2 (quantified-calls t) (quantified-at t) quantified.Post quantified-Inv-loop quantified-μ-loop
 quantified-returns-2 t c =
     let s = c .before .before .before .before .before .before .before .before in
     let e = c .before .before .before .before .before .before .before .range-of .ensures in
-    (joint-done (readingOf (s .args .reading)) (s .args .t .now) (s .args .places .now) (s .args .assignment .now) (s .args .setting .now) (s .args .s .0) (s .args .body .0) (quantifierOf (s .args .q)) (c .before .loop .k) (c .before .loop .inv .is) e (all-turns (c .before .loop .inv .within) (c .loop-test .left)), c .before .loop .inv .kept)
+    (joint-done (meant (s .args .reading)) (s .args .t .now) (s .args .places .now) (s .args .assignment .now) (s .args .setting .now) (s .args .s .0) (s .args .body .0) (quantifierOf (s .args .q)) (c .before .loop .k) (c .before .loop .inv .is) e (all-turns (c .before .loop .inv .within) (c .loop-test .left)), c .before .loop .inv .kept)
 
 abbrev sum-Inv-loop : sum-lts.InvT-loop
 sum-Inv-loop t places assignment setting₀ reading body low count i outer total₀ k₀ setting total k =
-    Summed (readingOf reading) t places assignment setting₀ i (body .0) count k setting total
+    Summed (meant reading) t places assignment setting₀ i (body .0) count k setting total
 
 abbrev sum-μ-loop : sum-lts.MeasureT-loop
 sum-μ-loop t places assignment setting₀ reading body low count i outer total₀ k₀ setting total k = count - k
@@ -647,7 +648,7 @@ sum-returns : (t : ℕ) → sum-lts.Need-returns (sum-calls t) (sum-at t) sum.Po
 sum-returns t c =
     let s = c .before .before .before .before .before in
     let e = c .before .before .before .before .range-of .ensures in
-    (sum-done (readingOf (s .args .reading)) (s .args .t .now) (s .args .places .now) (s .args .assignment .now) (s .args .setting .now) (s .args .s .0) (s .args .body .0) 0 (c .before .nothing .ensures ∙ total-none (readingOf (s .args .reading)) (s .args .t .now) (s .args .places .now) (s .args .assignment .now) (s .args .setting .now) (s .args .s .0) (s .args .body .0)) e (sym (c .before .before .if1 .taken)) (c .summed .ensures), refl)
+    (sum-done (meant (s .args .reading)) (s .args .t .now) (s .args .places .now) (s .args .assignment .now) (s .args .setting .now) (s .args .s .0) (s .args .body .0) 0 (c .before .nothing .ensures ∙ total-none (meant (s .args .reading)) (s .args .t .now) (s .args .places .now) (s .args .assignment .now) (s .args .setting .now) (s .args .s .0) (s .args .body .0)) e (sym (c .before .before .if1 .taken)) (c .summed .ensures), refl)
 
 sum-cast-i : (t : ℕ) → sum-lts.Need-cast-i (sum-calls t) (sum-at t) sum.Post sum-Inv-loop sum-μ-loop
 sum-cast-i t c = search needs
@@ -671,7 +672,7 @@ sum-loop-holds : (t : ℕ) → sum-lts.Need-loop-holds (sum-calls t) (sum-at t) 
 sum-loop-holds t c =
     let s = c .before .before .before .before .before .before in
     let e = c .before .before .before .before .before .range-of .ensures in
-    record { within = omega arith; kept = refl; is = c .nothing2 .ensures ∙ total-none (readingOf (s .args .reading)) (s .args .t .now) (s .args .places .now) (s .args .assignment .now) (s .args .setting .now) (s .args .s .0) (s .args .body .0); small = nothing-small (c .nothing2 .ensures) }
+    record { within = omega arith; kept = refl; is = c .nothing2 .ensures ∙ total-none (meant (s .args .reading)) (s .args .t .now) (s .args .places .now) (s .args .assignment .now) (s .args .setting .now) (s .args .s .0) (s .args .body .0); small = nothing-small (c .nothing2 .ensures) }
 
 sum-value-in-requires : (t : ℕ) → sum-lts.Need-value-in-requires (sum-calls t) (sum-at t) sum.Post sum-Inv-loop sum-μ-loop
 sum-value-in-requires t c κs =
@@ -732,7 +733,7 @@ sum-loop-again t c =
     record {
       within = omega (arith, c .before .before .before .before .loop-test .taken);
       kept = restored (s .args .setting .now) (s .args .s .0) _ (search needs) (c .before .before .before .before .before .loop .inv .kept) (c .before .integer .ensures .1);
-      is = sum-turn (readingOf (s .args .reading)) (s .args .t .now) (s .args .places .now) (s .args .assignment .now) (s .args .setting .now) (s .args .s .0) (s .args .body .0) (c .before .before .before .before .before .loop .k) (subst (λ n. s .args .s .0 < n) (sym (s .pre .1 .wide)) (slot-in (s .pre .1 .laid) (s .args .s .0) e (c .before .before .before .before .before .before .before .before .before .if1 .left))) (c .before .before .before .before .before .loop .inv .is) (c .before .before .before .before .before .loop .inv .kept) (value-is (s .pre .1 .laid) (s .args .s .0) e (c .before .before .before .before .before .loop .k) (search needs) (sfits-of (c .before .before .before .value-in .ok)) (c .before .before .before .value-in .ensures)) (c .before .integer .ensures .0) (c .added .ensures .0);
+      is = sum-turn (meant (s .args .reading)) (s .args .t .now) (s .args .places .now) (s .args .assignment .now) (s .args .setting .now) (s .args .s .0) (s .args .body .0) (c .before .before .before .before .before .loop .k) (subst (λ n. s .args .s .0 < n) (sym (s .pre .1 .wide)) (slot-in (s .pre .1 .laid) (s .args .s .0) e (c .before .before .before .before .before .before .before .before .before .if1 .left))) (c .before .before .before .before .before .loop .inv .is) (c .before .before .before .before .before .loop .inv .kept) (value-is (s .pre .1 .laid) (s .args .s .0) e (c .before .before .before .before .before .loop .k) (search needs) (sfits-of (c .before .before .before .value-in .ok)) (c .before .before .before .value-in .ensures)) (c .before .integer .ensures .0) (c .added .ensures .0);
       small = omega (arith, c .before .before .before .before .before .loop .inv .small, c .added .ensures .1);
     }
 
@@ -743,7 +744,7 @@ sum-returns-2 : (t : ℕ) → sum-lts.Need-returns-2 (sum-calls t) (sum-at t) su
 sum-returns-2 t c =
     let s = c .before .before .before .before .before .before .before .before .before in
     let e = c .before .before .before .before .before .before .before .before .range-of .ensures in
-    (sum-done (readingOf (s .args .reading)) (s .args .t .now) (s .args .places .now) (s .args .assignment .now) (s .args .setting .now) (s .args .s .0) (s .args .body .0) (c .before .before .loop .k) (c .before .before .loop .inv .is) e (all-turns (c .before .before .loop .inv .within) (c .before .loop-test .left)) (c .summed2 .ensures), c .before .before .loop .inv .kept)
+    (sum-done (meant (s .args .reading)) (s .args .t .now) (s .args .places .now) (s .args .assignment .now) (s .args .setting .now) (s .args .s .0) (s .args .body .0) (c .before .before .loop .k) (c .before .before .loop .inv .is) e (all-turns (c .before .before .loop .inv .within) (c .before .loop-test .left)) (c .summed2 .ensures), c .before .before .loop .inv .kept)
 
 truth-truth-node-requires : (t : ℕ) → truth-lts.Need-truth-node-requires (truth-calls t) (truth-at t) truth.Post
 truth-truth-node-requires t c κs = node-in (c .pre .1)
@@ -952,28 +953,28 @@ truth-quantified-requires-2 t c κs =
 truth-returns : (t : ℕ) → truth-lts.Need-returns (truth-calls t) (truth-at t) truth.Post
 truth-returns t c =
     let s = c .before .before .before .before .before in
-    let ρ = readingOf (s .args .reading) in
+    let ρ = meant (s .args .reading) in
     let α = s .args .assignment .now in
     (c .of-calm .ensures ∙ truth-case (s .pre .1) ρ α (c .before .before .before .before .truth-node .ensures) (c .before .before .v .given .1), refl)
 
 truth-returns-2 : (t : ℕ) → truth-lts.Need-returns-2 (truth-calls t) (truth-at t) truth.Post
 truth-returns-2 t c =
     let s = c .before .before .before .before .before .before in
-    let ρ = readingOf (s .args .reading) in
+    let ρ = meant (s .args .reading) in
     let α = s .args .assignment .now in
     (c .truth-of .ensures ∙ ap (λ b. ofCalm true (Truth b)) (is-one (sfits-of (c .before .variable .ok)) (c .before .variable .ensures)) ∙ truth-case (s .pre .1) ρ α (c .before .before .before .before .before .truth-node .ensures) (c .before .before .before .v2 .given .1), refl)
 
 truth-returns-3 : (t : ℕ) → truth-lts.Need-returns-3 (truth-calls t) (truth-at t) truth.Post
 truth-returns-3 t c =
     let s = c .before .before .before .before .before .before .before in
-    let ρ = readingOf (s .args .reading) in
+    let ρ = meant (s .args .reading) in
     let α = s .args .assignment .now in
     (of-one (lookedUpTruth ρ (declared (s .args .t .now) (s .args .places .now)) α (c .before .before .before .before .a .given .0 .0 .0)) (c .looked-up-truth .ensures) (c .before .operand .ensures .0) (truth-case (s .pre .1) ρ α (c .before .before .before .before .before .before .truth-node .ensures) (c .before .before .before .before .a .given .1)), c .before .operand .ensures .1)
 
 truth-returns-4 : (t : ℕ) → truth-lts.Need-returns-4 (truth-calls t) (truth-at t) truth.Post
 truth-returns-4 t c =
     let s = c .before .before .before .before .before .before .before .before .before in
-    let ρ = readingOf (s .args .reading) in
+    let ρ = meant (s .args .reading) in
     let α = s .args .assignment .now in (
       of-two (connected ρ syntax.conj) (truthAt ρ (s .args .t .now) (s .args .places .now) α) (c .connect .ensures) (c .before .before .before .truth .ensures .0) (c .before .before .before .truth .ensures .1) (c .before .truth2 .ensures .0)
           (truth-case (s .pre .1) ρ α (c .before .before .before .before .before .before .before .before .truth-node .ensures) (c .before .before .before .before .before .before .a2 .given .1)),
@@ -983,7 +984,7 @@ truth-returns-4 t c =
 truth-returns-5 : (t : ℕ) → truth-lts.Need-returns-5 (truth-calls t) (truth-at t) truth.Post
 truth-returns-5 t c =
     let s = c .before .before .before .before .before .before .before .before .before in
-    let ρ = readingOf (s .args .reading) in
+    let ρ = meant (s .args .reading) in
     let α = s .args .assignment .now in (
       of-two (connected ρ syntax.disj) (truthAt ρ (s .args .t .now) (s .args .places .now) α) (c .connect2 .ensures) (c .before .before .before .truth3 .ensures .0) (c .before .before .before .truth3 .ensures .1) (c .before .truth4 .ensures .0)
           (truth-case (s .pre .1) ρ α (c .before .before .before .before .before .before .before .before .truth-node .ensures) (c .before .before .before .before .before .before .a3 .given .1)),
@@ -993,7 +994,7 @@ truth-returns-5 t c =
 truth-returns-6 : (t : ℕ) → truth-lts.Need-returns-6 (truth-calls t) (truth-at t) truth.Post
 truth-returns-6 t c =
     let s = c .before .before .before .before .before .before .before .before .before in
-    let ρ = readingOf (s .args .reading) in
+    let ρ = meant (s .args .reading) in
     let α = s .args .assignment .now in (
       of-two (connected ρ syntax.implies) (truthAt ρ (s .args .t .now) (s .args .places .now) α) (c .connect3 .ensures) (c .before .before .before .truth5 .ensures .0) (c .before .before .before .truth5 .ensures .1) (c .before .truth6 .ensures .0)
           (truth-case (s .pre .1) ρ α (c .before .before .before .before .before .before .before .before .truth-node .ensures) (c .before .before .before .before .before .before .a4 .given .1)),
@@ -1003,7 +1004,7 @@ truth-returns-6 t c =
 truth-returns-7 : (t : ℕ) → truth-lts.Need-returns-7 (truth-calls t) (truth-at t) truth.Post
 truth-returns-7 t c =
     let s = c .before .before .before .before .before .before .before .before .before in
-    let ρ = readingOf (s .args .reading) in
+    let ρ = meant (s .args .reading) in
     let α = s .args .assignment .now in (
       of-two (connected ρ syntax.iff) (truthAt ρ (s .args .t .now) (s .args .places .now) α) (c .connect4 .ensures) (c .before .before .before .truth7 .ensures .0) (c .before .before .before .truth7 .ensures .1) (c .before .truth8 .ensures .0)
           (truth-case (s .pre .1) ρ α (c .before .before .before .before .before .before .before .before .truth-node .ensures) (c .before .before .before .before .before .before .a5 .given .1)),
@@ -1013,14 +1014,14 @@ truth-returns-7 t c =
 truth-returns-8 : (t : ℕ) → truth-lts.Need-returns-8 (truth-calls t) (truth-at t) truth.Post
 truth-returns-8 t c =
     let s = c .before .before .before .before .before .before .before in
-    let ρ = readingOf (s .args .reading) in
+    let ρ = meant (s .args .reading) in
     let α = s .args .assignment .now in
     (of-one (opposed) (c .negation .ensures) (c .before .truth9 .ensures .0) (truth-case (s .pre .1) ρ α (c .before .before .before .before .before .before .truth-node .ensures) (c .before .before .before .before .a6 .given .1)), c .before .truth9 .ensures .1)
 
 truth-returns-9 : (t : ℕ) → truth-lts.Need-returns-9 (truth-calls t) (truth-at t) truth.Post
 truth-returns-9 t c =
     let s = c .before .before .before .before .before .before .before .before .before in
-    let ρ = readingOf (s .args .reading) in
+    let ρ = meant (s .args .reading) in
     let α = s .args .assignment .now in (
       of-two (compared ρ syntax.equal) (integerAt ρ (s .args .t .now) (s .args .places .now) α) (c .compare .ensures) (c .before .before .before .operand2 .ensures .0) (c .before .before .before .operand2 .ensures .1) (c .before .operand3 .ensures .0)
           (truth-case (s .pre .1) ρ α (c .before .before .before .before .before .before .before .before .truth-node .ensures) (c .before .before .before .before .before .before .a7 .given .1)),
@@ -1030,7 +1031,7 @@ truth-returns-9 t c =
 truth-returns-10 : (t : ℕ) → truth-lts.Need-returns-10 (truth-calls t) (truth-at t) truth.Post
 truth-returns-10 t c =
     let s = c .before .before .before .before .before .before .before .before .before in
-    let ρ = readingOf (s .args .reading) in
+    let ρ = meant (s .args .reading) in
     let α = s .args .assignment .now in (
       of-two (compared ρ syntax.unequal) (integerAt ρ (s .args .t .now) (s .args .places .now) α) (c .compare2 .ensures) (c .before .before .before .operand4 .ensures .0) (c .before .before .before .operand4 .ensures .1) (c .before .operand5 .ensures .0)
           (truth-case (s .pre .1) ρ α (c .before .before .before .before .before .before .before .before .truth-node .ensures) (c .before .before .before .before .before .before .a8 .given .1)),
@@ -1040,7 +1041,7 @@ truth-returns-10 t c =
 truth-returns-11 : (t : ℕ) → truth-lts.Need-returns-11 (truth-calls t) (truth-at t) truth.Post
 truth-returns-11 t c =
     let s = c .before .before .before .before .before .before .before .before .before in
-    let ρ = readingOf (s .args .reading) in
+    let ρ = meant (s .args .reading) in
     let α = s .args .assignment .now in (
       of-two (compared ρ syntax.atMost) (integerAt ρ (s .args .t .now) (s .args .places .now) α) (c .compare3 .ensures) (c .before .before .before .operand6 .ensures .0) (c .before .before .before .operand6 .ensures .1) (c .before .operand7 .ensures .0)
           (truth-case (s .pre .1) ρ α (c .before .before .before .before .before .before .before .before .truth-node .ensures) (c .before .before .before .before .before .before .a9 .given .1)),
@@ -1050,7 +1051,7 @@ truth-returns-11 t c =
 truth-returns-12 : (t : ℕ) → truth-lts.Need-returns-12 (truth-calls t) (truth-at t) truth.Post
 truth-returns-12 t c =
     let s = c .before .before .before .before .before .before .before .before .before in
-    let ρ = readingOf (s .args .reading) in
+    let ρ = meant (s .args .reading) in
     let α = s .args .assignment .now in (
       of-two (compared ρ syntax.below) (integerAt ρ (s .args .t .now) (s .args .places .now) α) (c .compare4 .ensures) (c .before .before .before .operand8 .ensures .0) (c .before .before .before .operand8 .ensures .1) (c .before .operand9 .ensures .0)
           (truth-case (s .pre .1) ρ α (c .before .before .before .before .before .before .before .before .truth-node .ensures) (c .before .before .before .before .before .before .a10 .given .1)),
@@ -1060,14 +1061,14 @@ truth-returns-12 t c =
 truth-returns-13 : (t : ℕ) → truth-lts.Need-returns-13 (truth-calls t) (truth-at t) truth.Post
 truth-returns-13 t c =
     let s = c .before .before .before .before .before .before in
-    let ρ = readingOf (s .args .reading) in
+    let ρ = meant (s .args .reading) in
     let α = s .args .assignment .now in
     (c .quantified .ensures .0 ∙ truth-case (s .pre .1) ρ α (c .before .before .before .before .before .truth-node .ensures) (c .before .before .before .s .given .1), c .quantified .ensures .1)
 
 truth-returns-14 : (t : ℕ) → truth-lts.Need-returns-14 (truth-calls t) (truth-at t) truth.Post
 truth-returns-14 t c =
     let s = c .before .before .before .before .before .before in
-    let ρ = readingOf (s .args .reading) in
+    let ρ = meant (s .args .reading) in
     let α = s .args .assignment .now in
     (c .quantified2 .ensures .0 ∙ truth-case (s .pre .1) ρ α (c .before .before .before .before .before .truth-node .ensures) (c .before .before .before .s2 .given .1), c .quantified2 .ensures .1)
 

@@ -10,7 +10,8 @@ use mir.Val.{SFits, toZ, ofZ}
 use mir.Facts.{toZ-ofZ}
 use Rattle.language.specs.Readings.{comparison, closed}
 use Rattle.operations.specs.declared.values.Value.the-variants.{Truth}
-use Rattle.operations.specs.Values.{readingOf, ofCalm, truthTo}
+use Rattle.reading.specs.Readings.{meant}
+use Rattle.operations.specs.Values.{ofCalm, truthTo}
 use Rattle.operations.specs.Truths.{comparisonOf, levelled}
 use Rattle.operations.proofs.Pairs.{compared-both, compared-missing}
 use Rattle.operations.proofs.Levels.{levelled-levelOf}
@@ -50,12 +51,12 @@ returns c =
     let q : SFits w32 y = search needs in
     c .truth-of .ensures
     ∙ ap (λ b. ofCalm true (Truth b)) (worked-out (comparison (comparisonOf (s .c))) x y p q (c .before .holds .ensures))
-    ∙ sym (compared-both (readingOf (s .reading)) (comparisonOf (s .c)) (s .a) (s .b) (sym (c .before .before .before .before .before .integers-of .ensures) ∙ c .before .before .before .x .given .1))
+    ∙ sym (compared-both (meant (s .reading)) (comparisonOf (s .c)) (s .a) (s .b) (sym (c .before .before .before .before .before .integers-of .ensures) ∙ c .before .before .before .x .given .1))
 
 returns-2 : tie.Need-returns-2
 returns-2 c =
     let s = c .before .before .before .before .before .before .args in
-    let ρ = readingOf (s .reading) in
+    let ρ = meant (s .reading) in
     c .at-level .ensures
     ∙ ap (truthTo (c .before .before .before .calm .given .0 .0)) (ap levelled (c .before .open-level .ensures) ∙ levelled-levelOf (closed ρ none))
     ∙ sym (compared-missing ρ (comparisonOf (s .c)) (s .a) (s .b) (sym (c .before .before .before .before .before .integers-of .ensures) ∙ c .before .before .before .calm .given .1))

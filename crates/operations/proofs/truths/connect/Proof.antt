@@ -9,7 +9,8 @@ use Rattle.language.specs.Readings as readings
 use Rattle.language.specs.Readings.{connective}
 use Rattle.operations.specs.declared.values.Value.the-variants.{Undefined}
 use Rattle.operations.specs.declared.values.Walked.{Walked}
-use Rattle.operations.specs.Values.{readingOf, truthOf, ofCalm, truthTo}
+use Rattle.reading.specs.Readings.{meant}
+use Rattle.operations.specs.Values.{truthOf, ofCalm, truthTo}
 use Rattle.operations.specs.Truths.{connectiveOf, levelOf, levelled, connected}
 use Rattle.operations.proofs.Levels.{levelled-levelOf}
 use Rattle.operations.proofs.truths.connect.Statement.{statement}
@@ -43,13 +44,13 @@ returns : tie.Need-returns
 returns c =
     let s = c .before .before .before .before .before .args in
     c .at-level .ensures
-    ∙ calmly (readingOf (s .reading)) (connectiveOf (s .c)) (s .a) (s .b) (c .before .if1 .taken)
+    ∙ calmly (meant (s .reading)) (connectiveOf (s .c)) (s .a) (s .b) (c .before .if1 .taken)
     (c .before .before .joined-under .ensures (truthOf (s .a .value)) (truthOf (s .b .value)) (c .before .before .before .before .level .ensures) (c .before .before .before .level2 .ensures))
 
 returns-2 : tie.Need-returns-2
 returns-2 c =
     let s = c .before .before .before .before .before .args in
-    c .undefined .ensures ∙ uneasily (readingOf (s .reading)) (connectiveOf (s .c)) (s .a) (s .b) (c .before .if1 .left)
+    c .undefined .ensures ∙ uneasily (meant (s .reading)) (connectiveOf (s .c)) (s .a) (s .b) (c .before .if1 .left)
 
 pub connect-spec : {M : Type 1} → statement M
 connect-spec =

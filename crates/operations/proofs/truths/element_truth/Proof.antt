@@ -16,7 +16,8 @@ use Rattle.language.specs.Readings.{closed}
 use Rattle.language.specs.Meaning.{isOne}
 use Rattle.language.proofs.Agreement.{closed-some}
 use Rattle.operations.specs.declared.values.Value.the-variants.{Truth}
-use Rattle.operations.specs.Values.{readingOf, integerOf, ofCalm, truthTo}
+use Rattle.reading.specs.Readings.{meant}
+use Rattle.operations.specs.Values.{integerOf, ofCalm, truthTo}
 use Rattle.operations.specs.Truths.{levelOf, levelled}
 use Rattle.operations.proofs.Levels.{levelled-levelOf}
 use Rattle.operations.proofs.truths.element_truth.Statement.{statement}
@@ -60,17 +61,17 @@ returns c =
     let s = c .before .before .before .before .args in
     let z = c .before .before .element .given .0 .0 in
     let f : SFits w32 z = search needs in
-    c .truth-of .ensures ∙ found (readingOf (s .reading)) (s .calm) z f (ap integerOf (c .before .before .element .given .1))
+    c .truth-of .ensures ∙ found (meant (s .reading)) (s .calm) z f (ap integerOf (c .before .before .element .given .1))
 
 returns-2 : tie.Need-returns-2
 returns-2 c =
     let s = c .before .before .before .before .args in
-    c .at-level .ensures ∙ not-found (readingOf (s .reading)) (s .calm) (ap integerOf (c .before .before .enum-told .given .1)) (c .before .open-level .ensures)
+    c .at-level .ensures ∙ not-found (meant (s .reading)) (s .calm) (ap integerOf (c .before .before .enum-told .given .1)) (c .before .open-level .ensures)
 
 returns-3 : tie.Need-returns-3
 returns-3 c =
     let s = c .before .before .before .before .args in
-    c .at-level2 .ensures ∙ not-found (readingOf (s .reading)) (s .calm) (ap integerOf (c .before .before .enum-told2 .given .1)) (c .before .open-level2 .ensures)
+    c .at-level2 .ensures ∙ not-found (meant (s .reading)) (s .calm) (ap integerOf (c .before .before .enum-told2 .given .1)) (c .before .open-level2 .ensures)
 
 pub element-truth-spec : {M : Type 1} → statement M
 element-truth-spec =

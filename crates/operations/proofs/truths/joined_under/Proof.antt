@@ -7,23 +7,23 @@ use mathlib.Core.Bool.{Bool}
 use mathlib.Core.Option.{Option}
 use Rattle.language.specs.Syntax as syntax
 use Rattle.language.specs.Readings.{strictly, kleenely, connective}
-use Rattle.operations.specs.declared.values.Reading.{Reading}
-use Rattle.operations.specs.declared.values.Reading.the-variants.{Strict, Kleene, Relational}
-use Rattle.operations.specs.Values.{readingOf}
+use Rattle.reading.specs.declared.Reading.{Reading}
+use Rattle.reading.specs.declared.Reading.the-variants.{Strict, Kleene, Relational}
+use Rattle.reading.specs.Readings.{meant}
 use Rattle.operations.specs.Truths.{connectiveOf, levelOf}
 use Rattle.operations.proofs.truths.joined_under.Statement.{statement}
 use Rattle.operations.proofs.truths.joined_under.Tie as tie
 
 module _ {ρ : Reading} {r : ℕ} (c : syntax.Connective) (u v : Option Bool) where
-  under-strict : ρ ≡ Strict → r ≡ levelOf (strictly c u v) → r ≡ levelOf (connective (readingOf ρ) c u v)
+  under-strict : ρ ≡ Strict → r ≡ levelOf (strictly c u v) → r ≡ levelOf (connective (meant ρ) c u v)
   unfolding connective
   under-strict e h = rw e h
 
-  under-kleene : ρ ≡ Kleene → r ≡ levelOf (kleenely c u v) → r ≡ levelOf (connective (readingOf ρ) c u v)
+  under-kleene : ρ ≡ Kleene → r ≡ levelOf (kleenely c u v) → r ≡ levelOf (connective (meant ρ) c u v)
   unfolding connective
   under-kleene e h = rw e h
 
-  under-relational : ρ ≡ Relational → r ≡ levelOf (kleenely c u v) → r ≡ levelOf (connective (readingOf ρ) c u v)
+  under-relational : ρ ≡ Relational → r ≡ levelOf (kleenely c u v) → r ≡ levelOf (connective (meant ρ) c u v)
   unfolding connective
   under-relational e h = rw e h
 

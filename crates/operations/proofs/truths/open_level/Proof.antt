@@ -4,22 +4,22 @@ use borrow.Author.Needs.{needs}
 use mathlib.Core.Path.{_≡_}
 use mathlib.Core.Option.{none}
 use Rattle.language.specs.Readings.{closed}
-use Rattle.operations.specs.declared.values.Reading.{Reading}
-use Rattle.operations.specs.declared.values.Reading.the-variants.{Strict, Kleene, Relational}
-use Rattle.operations.specs.Values.{readingOf}
+use Rattle.reading.specs.declared.Reading.{Reading}
+use Rattle.reading.specs.declared.Reading.the-variants.{Strict, Kleene, Relational}
+use Rattle.reading.specs.Readings.{meant}
 use Rattle.operations.specs.Truths.{levelOf}
 use Rattle.operations.proofs.truths.open_level.Statement.{statement}
 use Rattle.operations.proofs.truths.open_level.Tie as tie
 
-under-strict : {ρ : Reading} → ρ ≡ Strict → 1 ≡ levelOf (closed (readingOf ρ) none)
+under-strict : {ρ : Reading} → ρ ≡ Strict → 1 ≡ levelOf (closed (meant ρ) none)
 unfolding closed
 under-strict e = rw e
 
-under-kleene : {ρ : Reading} → ρ ≡ Kleene → 1 ≡ levelOf (closed (readingOf ρ) none)
+under-kleene : {ρ : Reading} → ρ ≡ Kleene → 1 ≡ levelOf (closed (meant ρ) none)
 unfolding closed
 under-kleene e = rw e
 
-under-relational : {ρ : Reading} → ρ ≡ Relational → 0 ≡ levelOf (closed (readingOf ρ) none)
+under-relational : {ρ : Reading} → ρ ≡ Relational → 0 ≡ levelOf (closed (meant ρ) none)
 unfolding closed
 under-relational e = rw e
 

@@ -1,10 +1,18 @@
--- `translation::reading_of` meets its contract.
+-- `reading::reading_of` meets its contract.
 -- Assumes nothing.
-use mathlib.Core.Path.{_≡_, refl}
+use mathlib.Core.Path.{_≡_}
+use mathlib.Core.Logic.{_≢_}
+use mathlib.Core.Option.{none}
+use Prim.Native.Nat.{ℕ}
+use borrow.Author.Tests.{ne-eqb}
 use Rattle.answers.specs.Answers.{readingOf}
-use Rattle.translation.proofs.Outcomes.{no-reading}
-use Rattle.translation.proofs.reading_of.Statement.{statement}
-use Rattle.translation.proofs.reading_of.Tie as tie
+use Rattle.reading.proofs.reading_of.Statement.{statement}
+use Rattle.reading.proofs.reading_of.Tie as tie
+
+-- a number that is none of the three
+no-reading : (c : ℕ) → c ≢ 1 → c ≢ 2 → c ≢ 3 → none ≡ readingOf c
+unfolding readingOf
+no-reading c a b d = rw (ne-eqb c 1 a, ne-eqb c 2 b, ne-eqb c 3 d)
 
 returns : tie.Need-returns
 unfolding readingOf

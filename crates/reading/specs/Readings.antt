@@ -1,0 +1,17 @@
+-- The readings and the choice as the code holds them.
+-- Assumes nothing.
+use mathlib.Core.Option.{Option, none, some}
+use Rattle.language.specs.Readings as Language
+use Rattle.reading.specs.declared.Reading.{Reading}
+use Rattle.reading.specs.declared.Reading.the-variants.{Strict, Kleene, Relational}
+use Rattle.reading.specs.declared.Choice.{Choice}
+use Rattle.reading.specs.declared.Choice.the-variants.{Under, Nothing}
+
+abbrev pub meant : Reading → Language.Reading
+meant Strict = Language.strict
+meant Kleene = Language.kleene
+meant Relational = Language.relational
+
+abbrev pub chosen : Choice → Option Language.Reading
+chosen (Under reading) = some (meant reading)
+chosen Nothing = none
