@@ -1,6 +1,6 @@
 -- The 32 bits of numbers that are read from 32 bits.
 -- Assumes nothing.
-use mathlib.Core.Path.{_≡_, refl, ap}
+use mathlib.Core.Path.{_≡_}
 use mathlib.Core.Logic.{⊎-elim}
 use Prim.Native.Nat.{ℕ, suc, _+_, _-_, _%_, _≤_, _<_}
 use native.Mathlib.Omega.{arith}
@@ -19,12 +19,13 @@ module _ (w count : ℕ) (h : w < 0x1_0000_0000) (k : count ≤ 0x8000_0000) whe
   abbrev sum : ℕ
   sum = (w + count + 0xffff_ffff) % 0x1_0000_0000
 
-  -- the sum of the parts, by the sign of what w stands for
+  -- The sum stands for z, where w stands for a number from 0 on,
   low : w < 0x8000_0000 → (z : ℤ) → suc (up z) ≡ dn z + (w + count) → sum ≡ bitsOf z
   unfolding bitsOf
   low l (pos n) e = omega arith
   low l (negsuc n) e = omega arith
 
+  -- and where it stands for one below 0.
   high : 0x8000_0000 ≤ w → (z : ℤ) → suc (up z) + (0x1_0000_0000 - w) ≡ dn z + count → sum ≡ bitsOf z
   unfolding bitsOf
   high l (pos n) e = omega arith

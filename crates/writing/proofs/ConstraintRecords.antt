@@ -19,11 +19,13 @@ use Rattle.translator.proofs.Stores.{sets-++}
 use Rattle.writing.specs.Constraints.{constraintsOver}
 
 module _ (firsts : List ℕ) where
+  -- Constraints behind constraints.
   constraintsOver-++ : (ks ls : List ℕ) → constraintsOver firsts (ks ++ ls) ≡ constraintsOver firsts ks ++ constraintsOver firsts ls
   unfolding constraintsOver
   constraintsOver-++ [] ls = refl
   constraintsOver-++ (k ∷ ks) ls = rw (constraintsOver-++ ks ls, append-assoc)
 
+  -- A record for each.
   length-constraintsOver : (ks : List ℕ) → length (constraintsOver firsts ks) ≡ recordSize * length ks
   unfolding constraintsOver recordSize
   length-constraintsOver [] = refl
@@ -49,6 +51,7 @@ module _ (bs firsts : List ℕ) (from : ℕ) where
   abbrev pub recordsOf : ℕ → List ℕ
   recordsOf i = constraintsOver firsts (listed i (λ j. natAbs (xAt bs (constraintsAt bs + j))))
 
+  -- One more adds its record,
   recordsOf-more : (i : ℕ) → recordsOf (i + 1) ≡ recordsOf i ++ recordOf (firstLetter CN) (secondLetter CN) 0 (getD firsts (natAbs (xAt bs (constraintsAt bs + i))) 0) 0
   unfolding listed constraintsOver
   recordsOf-more i =
@@ -56,17 +59,21 @@ module _ (bs firsts : List ℕ) (from : ℕ) where
       (constraintsOver-++ firsts (listed i (λ j. natAbs (xAt bs (constraintsAt bs + j)))) (natAbs (xAt bs (constraintsAt bs + i)) ∷ [])
       ∙ ap (λ l. recordsOf i ++ l) (simp append-nil))
 
+  -- and a record's bytes.
   length-recordsOf : (i : ℕ) → length (recordsOf i) ≡ recordSize * i
   length-recordsOf i = length-constraintsOver firsts (listed i (λ j. natAbs (xAt bs (constraintsAt bs + j)))) ∙ ap (λ n. recordSize * n) (length-listed (λ j. natAbs (xAt bs (constraintsAt bs + j))) i)
 
+  -- Nothing is put at first,
   pub none-put : (o : List ℕ) → o ≡ sets o (recordSize * from) (recordsOf 0)
   unfolding listed constraintsOver
   none-put o = refl
 
+  -- all constraints at last,
   pub all-put : (o : List ℕ) {out : List ℕ} {i : ℕ} → i ≡ restAt bs - constraintsAt bs → out ≡ sets o (recordSize * from) (recordsOf i) → out ≡ sets o (recordSize * from) (constraintsOver firsts (constraints bs))
   unfolding constraints constraintCount
   all-put o e f = f ∙ rw e
 
+  -- and one more at each turn.
   pub one-more-put : (o : List ℕ) {out new : List ℕ} (i : ℕ) {x p : ℕ} → out ≡ sets o (recordSize * from) (recordsOf i) → x ≡ natAbs (xAt bs (constraintsAt bs + i)) → p ≡ getD firsts x 0 → new ≡ sets out (12 * (from + i)) (recordOf 67 78 0 p 0) → new ≡ sets o (recordSize * from) (recordsOf (i + 1))
   unfolding recordSize firstLetter secondLetter
   one-more-put o {out} {new} i {x} {p} e f g h =

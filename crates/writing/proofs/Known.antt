@@ -3,23 +3,22 @@
 use mathlib.Core.Path.{_≡_, refl, sym, ap, subst, _∙_}
 use Prim.Native.Nat.{ℕ, _+_, _<_}
 use native.Mathlib.Omega.{arith}
-use mathlib.Core.Bool.{Bool, true, false, _||_}
+use mathlib.Core.Bool.{Bool, true, false}
 use mathlib.Core.List.{List}
 use mathlib.Core.Option.{none, some, Option·some-injective}
 use borrow.Author.Tests.{eqb-true}
 use lib.Dec.{eqb}
 use lib.IntN.{ℤ, natAbs}
 use lib.ListN.{length, length-map}
-use Rattle.language.specs.Syntax.{boolean, integer, Declarations}
+use Rattle.language.specs.Syntax.{Declarations}
 use Rattle.language.specs.Tables.{Row}
-use Rattle.table.specs.Records.{recordCount, kindAt, xAt}
-use Rattle.table.specs.Kinds.{Kind, arrayNumber, kinds, kindOf}
+use Rattle.table.specs.Records.{kindAt, xAt}
+use Rattle.table.specs.Kinds.{Kind, kinds, kindOf}
 use Rattle.answers.specs.Sections.{nodesAt, nodeCount, arrayRecords, arrayOf, declarations, behindArray}
 use Rattle.answers.specs.Check.{checkFault}
 use Rattle.answers.proofs.KindsFit.{FieldFits}
 use Rattle.answers.proofs.NodesFit.{none→NodePassed}
 use Rattle.answers.proofs.Passed as Answers
-use Rattle.layout.specs.Passed.{Passed}
 use Rattle.layout.proofs.Checked.{checked}
 use Rattle.layout.proofs.Order.{ordered}
 use Rattle.bounds.proofs.Declared.{behind-inside}
@@ -39,6 +38,7 @@ names-declared Γ before x k q t e f = by-test (eqb k 15) refl
     by-test false z = as-declared _ (ap kindOf (sym (eqb-true k 16 (rw z at t))) ∙ e) .1 .declared
 
 module _ (bs : List ℕ) (e : checkFault bs ≡ none) where
+  -- A node that the check passes is known,
   pub known-node : (n : ℕ) {p : ℕ} → p ≡ nodesAt bs + n → n < nodeCount bs → KnownNode bs p
   unfolding nodeCount declarations
   known-node n {p} at h =
@@ -56,6 +56,7 @@ module _ (bs : List ℕ) (e : checkFault bs ≡ none) where
           let node = none→NodePassed bs n (nodesAt bs + n) (Answers.checkFault≡none→Passed bs e .nodes-passed n h) in
           omega (arith, names-declared (declarations bs) _ (xAt bs (nodesAt bs + n)) (kindAt bs (nodesAt bs + n)) (node .kind) t (node .kind-is) (node .x-fits), length-map (arrayRecords bs) (arrayOf bs))
 
+  -- and so are the arrays.
   pub known-arrays : KnownArrays bs
   unfolding behindArray
   known-arrays =

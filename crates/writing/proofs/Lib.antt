@@ -2,6 +2,9 @@ pub mod Bits
 pub mod Codes
 pub mod ConstraintRecords
 pub mod Known
+pub mod NodeRecords
 pub mod NodeWords
+pub mod PlanNumbers
+pub mod Positions
 pub mod Standing
 pub mod Turns

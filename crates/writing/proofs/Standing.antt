@@ -1,123 +1,28 @@
 -- What stands after the first n nodes: their records, the number of the next one, and the positions of both companions of each.
 -- Assumes nothing.
 use mathlib.Core.Path.{_≡_, refl, sym, ap, _∙_}
-use mathlib.Core.Logic.{⊎-elim}
 use Prim.Native.Nat.{ℕ, zero, suc, _+_, _-_, _*_, _≤_, _<_}
 use native.Mathlib.Omega.{arith}
-use native.Mathlib.Numerals.{add-one}
-use mathlib.Core.Bool.{true}
 use mathlib.Core.List.{List, [], _∷_, _++_, map}
-use borrow.Author.Tests.{lt-ltb}
-use lib.Dec.{T, leb, leb→le}
 use lib.IntN.{natAbs}
-use lib.ListN.{length, getD, set, replicate, length-append, length-map, length-set, length-replicate, getD-replicate, List·getD-append, List·getD-eq-default}
-use lib.Seq.{sets, length-sets, getD-at, getD-set-same, getD-set-other}
-use Rattle.numbers.proofs.Naturals.{lt-or-ge}
-use Rattle.numbers.proofs.Splits.{Below, below-at}
-use Rattle.language.specs.Readings.{Reading, strict, kleene, relational}
-use Rattle.language.specs.Tables.{Row, constantRow, variableRow, slotRow, arithRow, divideRow, negateRow, boolToIntRow, lookupRow, sumRow, truthRow, variableBRow, lookupBRow, connectRow, negationRow, compareRow, quantifyRow}
+use lib.ListN.{length, getD, set, replicate, length-append, length-map}
+use lib.Seq.{sets, length-sets}
+use Rattle.language.specs.Readings.{Reading}
 use Rattle.rules.specs.Writing.{Translated, writeRule, nothingYet, ruleAfter, append, step}
-use Rattle.table.specs.Records.{recordSize, kindAt, xAt, yAt, recordBytes, bitsOf}
-use Rattle.table.specs.Kinds.{nodeBytes}
+use Rattle.table.specs.Records.{recordSize, kindAt, xAt, yAt}
 use Rattle.answers.specs.Sections.{nodesAt, nodeCount, constraintCount, rowOf, rows, constraints, declarations}
 use Rattle.answers.specs.Answers.{translated, newNodes, newConstraints, newCount}
-use Rattle.translator.specs.Cells.{Cell, recordOf, cellBytes, cellsBytes, fields, place, resolve, rowsFrom}
-use Rattle.translator.specs.Plans.{ruleRows, rulePlans, readingNumber, planIndex, planAt, planRows}
+use Rattle.translator.specs.Cells.{cellsBytes, fields, place, resolve, rowsFrom}
+use Rattle.translator.specs.Plans.{ruleRows, planAt, planRows}
 use Rattle.translator.specs.Words.{nodeNumbers, nodeWords}
-use Rattle.translator.proofs.Cells.{cellsBytes-++, length-cellsBytes, map-++}
+use Rattle.translator.proofs.Cells.{map-++}
 use Rattle.translator.proofs.Compiled.{rowFor}
 use Rattle.translator.proofs.States.{state, state-zero, state-suc, node-writes, length-state-suc, new-count}
 use Rattle.translator.proofs.Stores.{sets-++}
 use Rattle.writing.specs.Constraints.{constraintsOver}
 use Rattle.writing.proofs.ConstraintRecords.{newConstraints-over}
-
--- ---- records of rows
-
-row-bytes : (r : Row) → nodeBytes r ≡ cellBytes (fields r)
-unfolding nodeBytes cellBytes fields recordBytes recordOf bitsOf
-row-bytes (constantRow z) = refl
-row-bytes (truthRow b) = refl
-row-bytes (variableRow v) = refl
-row-bytes (variableBRow v) = refl
-row-bytes (slotRow s) = refl
-row-bytes (arithRow op a b) = refl
-row-bytes (divideRow op a b) = refl
-row-bytes (negateRow a) = refl
-row-bytes (boolToIntRow a) = refl
-row-bytes (lookupRow A i) = refl
-row-bytes (lookupBRow A i) = refl
-row-bytes (sumRow s a) = refl
-row-bytes (connectRow c a b) = refl
-row-bytes (negationRow a) = refl
-row-bytes (compareRow c a b) = refl
-row-bytes (quantifyRow q s a) = refl
-
-newNodes-cells : (bs : List ℕ) (ρ : Reading) (rs : List Row) → newNodes bs ρ rs ≡ cellsBytes (map fields rs)
-unfolding newNodes cellsBytes
-newNodes-cells bs ρ [] = refl
-newNodes-cells bs ρ (r ∷ rs) = rw (row-bytes r, newNodes-cells bs ρ rs)
-
-length-newNodes : (bs : List ℕ) (ρ : Reading) (rs : List Row) → length (newNodes bs ρ rs) ≡ recordSize * length rs
-length-newNodes bs ρ rs = ap length (newNodes-cells bs ρ rs) ∙ length-cellsBytes (map fields rs) ∙ ap (λ n. recordSize * n) (length-map rs fields)
-
--- Records behind records.
-stored : (o : List ℕ) (i : ℕ) (cs ds : List Cell) {at : ℕ} → at ≡ i + recordSize * length cs → sets (sets o i (cellsBytes cs)) at (cellsBytes ds) ≡ sets o i (cellsBytes (cs ++ ds))
-stored o i cs ds {at} e =
-    ap (λ k. sets (sets o i (cellsBytes cs)) k (cellsBytes ds)) (e ∙ ap (λ l. i + l) (sym (length-cellsBytes cs)))
-    ∙ sym (sets-++ o i (cellsBytes cs) (cellsBytes ds)) ∙ ap (sets o i) (sym (cellsBytes-++ cs ds))
-
--- ---- positions
-
--- The places hold these positions, and 0 behind them.
-pub record Positions (ps places : List ℕ) (n : ℕ) : Type 0 where
-  pub sized : length places ≡ 5_000
-  pub counted : length ps ≡ n
-  pub held : (k : ℕ) → getD places k 0 ≡ getD ps k 0
-
-no-positions : {places : List ℕ} → places ≡ replicate 5_000 0 → Positions [] places 0
-no-positions e = rw e (record { sized = length-replicate {A = ℕ} 5_000 0; counted = refl; held = λ k. zeros k })
-  where
-    zeros : (k : ℕ) → _≡_ {A = ℕ} (getD (replicate 5_000 0) k 0) 0
-    zeros k = ⊎-elim (λ h. getD-replicate {A = ℕ} 5_000 k 0 0 h) (λ h. List·getD-eq-default (replicate 5_000 0) 0 {n = k} (rw length-replicate h)) (lt-or-ge k 5_000)
-
-one-position-more : {ps places : List ℕ} {n : ℕ} → Positions ps places n → n < 5_000 → (v : ℕ) → Positions (ps ++ (v ∷ [])) (set places n v) (n + 1)
-one-position-more {ps} {places} {n} w h v =
-    record {
-      sized = length-set places n v ∙ w .sized;
-      counted = length-append ps (v ∷ []) ∙ omega (arith, w .counted);
-      held = λ k. ⊎-elim (λ l. before k l) (λ l. ⊎-elim (λ m. at k (omega arith)) (λ m. behind k m) (lt-or-ge k (suc n))) (lt-or-ge k n);
-    }
-  where
-    before : (k : ℕ) → k < n → getD (set places n v) k 0 ≡ getD (ps ++ (v ∷ [])) k 0
-    before k l = getD-set-other places n k v 0 (λ z. omega arith) ∙ w .held k ∙ sym (List·getD-append ps (v ∷ []) 0 k (omega (arith, w .counted)))
-
-    at : (k : ℕ) → k ≡ n → getD (set places n v) k 0 ≡ getD (ps ++ (v ∷ [])) k 0
-    at k e = rw e (getD-set-same places n v 0 (omega (arith, w .sized)) ∙ sym (getD-at ps v [] 0 n (w .counted)))
-
-    behind : (k : ℕ) → suc n ≤ k → getD (set places n v) k 0 ≡ getD (ps ++ (v ∷ [])) k 0
-    behind k l = getD-set-other places n k v 0 (λ z. omega arith) ∙ w .held k ∙ List·getD-eq-default ps 0 {n = k} (omega (arith, w .counted)) ∙ sym (List·getD-eq-default (ps ++ (v ∷ [])) 0 {n = k} (omega (arith, length-append ps (v ∷ []), w .counted)))
-
--- ---- plans
-
--- Where a plan's numbers stand.
-pub planned : (ρ : Reading) (k i : ℕ) {j : ℕ} → k < 31 → j ≡ 124 * readingNumber ρ + 4 * k + i → getD rulePlans j 0 ≡ planAt ρ k i
-unfolding planAt planIndex
-planned ρ k i {j} h e = rw (lt-ltb k 31 h) (ap (λ m. getD rulePlans m 0) (omega arith))
-
--- Every plan's rows are among the rows.
-abbrev Within : Reading → ℕ → Type 0
-Within ρ k = T (leb (3 * (planAt ρ k 0 + planAt ρ k 1)) 378)
-
-all-within : (ρ : Reading) → Below 31 (Within ρ)
-unfolding planAt planIndex readingNumber rulePlans
-all-within strict = (tt, (tt, (tt, (tt, (tt, (tt, (tt, (tt, (tt, (tt, (tt, (tt, (tt, (tt, (tt, (tt, (tt, (tt, (tt, (tt, (tt, (tt, (tt, (tt, (tt, (tt, (tt, (tt, (tt, (tt, (tt, tt)))))))))))))))))))))))))))))))
-all-within kleene = (tt, (tt, (tt, (tt, (tt, (tt, (tt, (tt, (tt, (tt, (tt, (tt, (tt, (tt, (tt, (tt, (tt, (tt, (tt, (tt, (tt, (tt, (tt, (tt, (tt, (tt, (tt, (tt, (tt, (tt, (tt, tt)))))))))))))))))))))))))))))))
-all-within relational = (tt, (tt, (tt, (tt, (tt, (tt, (tt, (tt, (tt, (tt, (tt, (tt, (tt, (tt, (tt, (tt, (tt, (tt, (tt, (tt, (tt, (tt, (tt, (tt, (tt, (tt, (tt, (tt, (tt, (tt, (tt, tt)))))))))))))))))))))))))))))))
-
-pub rows-within : (ρ : Reading) (k : ℕ) → k < 31 → 3 * (planAt ρ k 0 + planAt ρ k 1) ≤ 378
-rows-within ρ k h = leb→le _ _ (below-at 31 (Within ρ) (all-within ρ) k h)
-
--- ---- nodes
+use Rattle.writing.proofs.NodeRecords.{newNodes-cells, length-newNodes, stored}
+use Rattle.writing.proofs.Positions.{Positions, no-positions, one-position-more}
 
 module _ (bs : List ℕ) (ρ : Reading) where
   -- What one more node adds.
@@ -126,6 +31,7 @@ module _ (bs : List ℕ) (ρ : Reading) where
     firsts : state bs ρ (n + 1) .firsts ≡ state bs ρ n .firsts ++ (place words (length (state bs ρ n .rows)) (planAt ρ k 2) ∷ [])
     seconds : state bs ρ (n + 1) .seconds ≡ state bs ρ n .seconds ++ (place words (length (state bs ρ n .rows)) (planAt ρ k 3) ∷ [])
 
+  -- It adds its plan's rows, with its words in place.
   node-adds : (n : ℕ) {p : ℕ} → p ≡ nodesAt bs + n → kindAt bs p < 31 → Adds n (kindAt bs p) (nodeWords (declarations bs) (state bs ρ n .firsts) (state bs ρ n .seconds) (kindAt bs p) (xAt bs p) (yAt bs p))
   unfolding step append ruleAfter rowOf rowFor
   node-adds n {p} e h =
@@ -157,6 +63,7 @@ module _ (bs : List ℕ) (ρ : Reading) where
   unfolding state translated rows
   state-all n e = rw e
 
+  -- What stands after n nodes, in bytes that were o before.
   pub record Standing (o out firsts seconds : List ℕ) (next n : ℕ) : Type 0 where
     pub written : out ≡ sets o (recordSize * nodesAt bs) (newNodes bs ρ (state bs ρ n .rows))
     pub sized : length out ≡ length o
@@ -164,6 +71,7 @@ module _ (bs : List ℕ) (ρ : Reading) where
     pub firsts-held : Positions (state bs ρ n .firsts) firsts n
     pub seconds-held : Positions (state bs ρ n .seconds) seconds n
 
+  -- Nothing at first,
   pub standing-none : (o : List ℕ) {firsts seconds : List ℕ} → firsts ≡ replicate 5_000 0 → seconds ≡ replicate 5_000 0 → Standing o o firsts seconds 0 0
   unfolding nothingYet newNodes
   standing-none o {firsts} {seconds} e f =
@@ -182,6 +90,7 @@ module _ (bs : List ℕ) (ρ : Reading) where
     unfolding nodeWords nodeNumbers
     same-words k p = rw (w .firsts-held .held (natAbs (xAt bs p)), w .seconds-held .held (natAbs (xAt bs p)), w .firsts-held .held (natAbs (yAt bs p)), w .seconds-held .held (natAbs (yAt bs p)))
 
+    -- one node more at each turn.
     pub standing-more : {p kind at from count a b next′ : ℕ} {words new : List ℕ} → p ≡ nodesAt bs + n → kind ≡ kindAt bs p → kindAt bs p < 31 → n < 5_000
         → words ≡ nodeWords (declarations bs) firsts seconds (kindAt bs p) (xAt bs p) (yAt bs p)
         → from ≡ planAt ρ (kindAt bs p) 0 → count ≡ planAt ρ (kindAt bs p) 1 → at ≡ recordSize * (nodesAt bs + next)

@@ -33,6 +33,7 @@ pub record Turn (bs : List ℕ) (ρ : Reading) (room nodes next n : ℕ) : Type 
   pub small : 12 * (nodes + (next + planAt ρ (kindAt bs (nodes + n)) 1)) ≤ 60_000
 
 module _ (bs : List ℕ) (ρ : Reading) {at : Layout} {room : ℕ} (e : checkFault bs ≡ none) (a : at ≡ layoutOf bs) (r : recordSize * newCount bs ρ ≤ room) (m : recordSize * newCount bs ρ ≤ mostBytes) {o out firsts seconds : List ℕ} {next n : ℕ} (w : Standing bs ρ o out firsts seconds next n) where
+  -- A turn for each node.
   pub turn : n < at .constraints - at .nodes → Turn bs ρ room (at .nodes) next n
   unfolding nodeCount recordSize
   turn h =
@@ -56,6 +57,7 @@ module _ (bs : List ℕ) (ρ : Reading) {at : Layout} {room : ℕ} (e : checkFau
       let l = laid bs (checked bs e) a in
       omega (arith, l, w .next-is, length-constraints bs, new-count bs ρ n h)
 
+  -- The next number is small.
   pub next-small : n ≡ nodeCount bs → 12 * (at .nodes + next) ≤ 60_000
   unfolding recordSize
   next-small h =

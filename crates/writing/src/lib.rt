@@ -25,8 +25,8 @@ use translator::rows::word_of;
 use translator::tables::PLANS;
 use translator::tables::ROWS;
 
-pub mod constraints;
-pub mod words;
+mod constraints;
+mod words;
 
 // Where the plans of a reading begin.
 fn first_plan(reading: Reading) -> usize

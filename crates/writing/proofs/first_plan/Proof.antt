@@ -3,7 +3,6 @@
 use borrow.Author.Needs.{needs}
 use native.Mathlib.Omega.{arith}
 use Rattle.translator.specs.Plans.{readingNumber}
-use Rattle.reading.specs.Readings.{meant}
 use Rattle.writing.proofs.first_plan.Statement.{statement}
 use Rattle.writing.proofs.first_plan.Tie as tie
 

@@ -14,7 +14,8 @@ use Rattle.translator.specs.Cells.{place}
 use Rattle.translator.specs.Plans.{ruleRows, rulePlans, readingNumber, planAt}
 use Rattle.reading.specs.Readings.{meant}
 use Rattle.writing.proofs.Known.{known-arrays}
-use Rattle.writing.proofs.Standing.{Standing, standing-none, standing-more, standing-all, planned, rows-within}
+use Rattle.writing.proofs.PlanNumbers.{planned, rows-within}
+use Rattle.writing.proofs.Standing.{Standing, standing-none, standing-more, standing-all}
 use Rattle.writing.proofs.Turns.{Turn, turn, constraints-fit, next-small}
 use Rattle.writing.proofs.put_nodes_and_constraints.Statement.{statement}
 use Rattle.writing.proofs.put_nodes_and_constraints.Tie as tie

@@ -1,6 +1,6 @@
 -- `writing::words::node_words` meets its contract.
 -- Assumes nothing.
-use mathlib.Core.Path.{_≡_, sym, ap, _∙_}
+use mathlib.Core.Path.{sym, _∙_}
 use native.Mathlib.Omega.{arith}
 use Rattle.table.specs.Records.{recordSize}
 use Rattle.layout.proofs.Runs.{within-table}
