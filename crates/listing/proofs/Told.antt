@@ -1,0 +1,142 @@
+-- What a translation gives tells the listing's text.
+-- Assumes nothing.
+use mathlib.Core.Path.{_≡_, refl, sym, ap, _∙_}
+use Prim.Native.Nat.{ℕ, zero, suc, _+_, _*_, _/_, _≤_, _<_}
+use native.Mathlib.Nat.{mul-div-right, mul-suc, add-zero}
+use native.Mathlib.Omega.{arith}
+use mathlib.Core.Bool.{Bool, true, false, cond, _&&_}
+use mathlib.Core.List.{List, [], _∷_, _++_}
+use mathlib.Core.Option.{Option, none, some, Option·map, orElse}
+use borrow.Author.Tests.{ne-eqb}
+use lib.Dec.{eqb, leb}
+use lib.ListN.{length, drop, length-append}
+use Rattle.numbers.specs.Limits.{mostBytes}
+use Rattle.language.specs.Readings.{Reading}
+use Rattle.language.specs.Tables.{treeAt}
+use Rattle.rules.specs.Bounds.{withinBounds}
+use Rattle.table.specs.Records.{recordSize, byteAt, kindAt, auxAt, xAt, yAt}
+use Rattle.table.proofs.Alike.{Alike, Alike-left, kindAt-alike, auxAt-alike, xAt-alike, yAt-alike}
+use Rattle.table.proofs.Marks.{0<recordSize}
+use Rattle.answers.specs.Sections.{nodesAt, declarations, rows, nodeTrees}
+use Rattle.answers.specs.Check.{Refusal, refuse, unless, firstFault, checkFault}
+use Rattle.answers.specs.Answers.{Answer, Outcome, refused, done, outcome, readingOf, underChoice, boundsFault, roomFault, translation, newCount, translationFault, translateUnder, translate}
+use Rattle.answers.specs.Listing.{lineOf, linesOf, listingUnder, listingOf}
+use Rattle.answers.proofs.Faults.{none-orElse}
+use Rattle.answers.proofs.Passed.{checkFault≡none→Passed}
+use Rattle.answers.proofs.NewRecords.{length-translation}
+use Rattle.soundness.proofs.Numbered.{Numbered, Refuses, none-numbered, some-numbered, checkFault-numbered}
+use Rattle.lines.specs.Pieces.{refusalText}
+use Rattle.listing.specs.Texts.{textFor, textOf}
+
+-- ---- the lines of records at the front of a longer byte string
+
+1<recordSize : 1 < recordSize
+unfolding recordSize
+1<recordSize = omega arith
+
+lineOf-alike : {bs cs : List ℕ} {k : ℕ} → Alike bs k cs k → lineOf bs k ≡ lineOf cs k
+unfolding lineOf
+lineOf-alike {bs} {cs} {k} h =
+    let first : byteAt bs (recordSize * k) ≡ byteAt cs (recordSize * k) = simp add-zero at (h .bytes 0 0<recordSize) in
+    rw (first, h .bytes 1 1<recordSize, kindAt-alike h, auxAt-alike h, xAt-alike h, yAt-alike h)
+
+linesOf-front : (xs ys : List ℕ) (n : ℕ) → recordSize * n ≤ length xs → linesOf (xs ++ ys) n ≡ linesOf xs n
+unfolding linesOf
+linesOf-front xs ys zero h = refl
+linesOf-front xs ys (suc n) h =
+    let less : recordSize * n ≤ length xs = omega (arith, rw (mul-suc recordSize n) at h) in
+    rw (linesOf-front xs ys n less, lineOf-alike (Alike-left xs ys n h))
+
+-- ---- a refusal's number is not 0
+
+orElse-numbered : (a b : Option Refusal) → Refuses a → Refuses b → Refuses (orElse a b)
+unfolding orElse
+orElse-numbered none b p q = q
+orElse-numbered (some x) b p q = p
+
+unless-numbered : (b : Bool) (p : ℕ) → Refuses (Option·map (λ n. record { number = n; at = p }) (unless 8 b))
+unfolding unless
+unless-numbered true p = none-numbered
+unless-numbered false p = some-numbered _ (omega arith)
+
+first-numbered : (fits : ℕ → Bool) (p k : ℕ) → Refuses (firstFault (λ n. unless 8 (fits n)) p k)
+unfolding firstFault
+first-numbered fits p zero = none-numbered
+first-numbered fits p (suc k) = orElse-numbered (firstFault (λ n. unless 8 (fits n)) p k) _ (first-numbered fits p k) (unless-numbered (fits k) (p + k))
+
+room-numbered : (b : Bool) → Refuses (cond b none (refuse 9 0))
+room-numbered true = none-numbered
+room-numbered false = some-numbered _ (omega arith)
+
+boundsFault-numbered : (table : List ℕ) → Refuses (boundsFault table)
+unfolding boundsFault
+boundsFault-numbered table = first-numbered (λ n. withinBounds (declarations table) (treeAt (nodeTrees table) n)) (nodesAt table) (length (rows table))
+
+translationFault-numbered : (table : List ℕ) (ρ : Reading) (room : ℕ) → Refuses (translationFault table ρ room)
+unfolding translationFault roomFault
+translationFault-numbered table ρ room =
+    orElse-numbered (checkFault table) (orElse (boundsFault table) (roomFault table ρ room)) (checkFault-numbered table)
+    (orElse-numbered (boundsFault table) (roomFault table ρ room) (boundsFault-numbered table)
+    (room-numbered (leb (recordSize * newCount table ρ) room && leb (recordSize * newCount table ρ) mostBytes)))
+
+-- ---- the text
+
+text-refused : (r : Refusal) (lent : List ℕ) → 0 < r .number → textOf (refused r) lent ≡ refusalText (r .number) (r .at)
+unfolding textFor refused
+text-refused r lent h = rw (ne-eqb (r .number) 0 (λ e. omega (arith, e)))
+
+text-done : (new rest : List ℕ) (n : ℕ) → length new ≡ recordSize * n → textOf (done 0 (length new) false) (new ++ rest) ≡ linesOf new n
+unfolding textFor done
+text-done new rest n e = rw (e, mul-div-right n 0<recordSize) (linesOf-front new rest n (omega (arith, e)))
+
+-- the text for an outcome
+abbrev pub textsOf : Outcome → List ℕ
+textsOf o = textOf (o .answer) (o .lent)
+
+text-under : (table : List ℕ) (ρ : Reading) (lent : List ℕ) → length lent ≡ mostBytes → textsOf (translateUnder table ρ lent) ≡ listingUnder table ρ
+unfolding translateUnder listingUnder outcome translationFault
+text-under table ρ lent e = go (translationFault table ρ mostBytes) refl
+  where
+    go : (f : Option Refusal) → translationFault table ρ mostBytes ≡ f → textsOf (translateUnder table ρ lent) ≡ listingUnder table ρ
+    go none h =
+        let passed = checkFault≡none→Passed table (none-orElse (checkFault table) (orElse (boundsFault table) (roomFault table ρ mostBytes)) h .0) in
+        rw (translateUnder, listingUnder, e, h) (text-done (translation table ρ) _ (newCount table ρ) (length-translation table ρ passed))
+    go (some r) h = rw (translateUnder, listingUnder, e, h) (text-refused r lent (translationFault-numbered table ρ mostBytes .positive r h))
+
+-- The text for what a translation into 60,000 bytes gives is the listing.
+pub text-listed : (choice : ℕ) (table lent : List ℕ) → length lent ≡ mostBytes → textsOf (translate choice table lent) ≡ listingOf choice table
+unfolding translate underChoice listingOf outcome
+text-listed choice table lent e = go (readingOf choice) refl
+  where
+    go : (o : Option Reading) → readingOf choice ≡ o → textsOf (translate choice table lent) ≡ listingOf choice table
+    go none h = rw (translate, underChoice, listingOf, h) (text-refused (record { number = 7; at = 0 }) lent (omega arith))
+    go (some ρ) h = rw (translate, underChoice, listingOf, h) (text-under table ρ lent e)
+
+-- ---- the length
+
+-- what an outcome says is written lies within its lent bytes
+abbrev Within : Outcome → Type 0
+Within o = o .answer .length-written ≤ length (o .lent)
+
+outcome-within : (f : Option Refusal) (new lent : List ℕ) → Within (outcome f (done 0 (length new) false) new lent)
+unfolding outcome done refused
+outcome-within none new lent = simp length-append (omega arith)
+outcome-within (some r) new lent = omega arith
+
+pub translate-within : (choice : ℕ) (table lent : List ℕ) → Within (translate choice table lent)
+unfolding translate underChoice translateUnder
+translate-within choice table lent = go (readingOf choice) refl
+  where
+    go : (o : Option Reading) → readingOf choice ≡ o → Within (translate choice table lent)
+    go none h = rw (translate, underChoice, h) (outcome-within (refuse 7 0) [] lent)
+    go (some ρ) h = rw (translate, underChoice, h) (outcome-within (translationFault table ρ (length lent)) (translation table ρ) lent)
+
+-- ---- the answer of the code
+
+-- The text by an answer's number, record and length is the listing, and its length lies within the lent bytes.
+module _ (choice : ℕ) (table lent : List ℕ) {a : Answer} {new : List ℕ} (e : record { answer = a; lent = new } ≡ translate choice table lent) where
+  pub answer-text : {number at written : ℕ} → number ≡ a .number → at ≡ a .at → written ≡ a .length-written → length lent ≡ mostBytes → textFor number at written new ≡ listingOf choice table
+  answer-text p q r l = rw (p, q, r) (ap textsOf e ∙ text-listed choice table lent l)
+
+  pub answer-within : a .length-written ≤ length new
+  answer-within = rw (ap (λ (o : Outcome). o .answer .length-written) e, ap (λ (o : Outcome). length (o .lent)) e) (translate-within choice table lent)
