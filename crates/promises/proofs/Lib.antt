@@ -1,3 +1,4 @@
 pub mod OfCheck
 pub mod OfEvaluate
+pub mod OfList
 pub mod OfTranslate
