@@ -126,13 +126,15 @@ fn translate_sound(reading: Reading, table: &[u8], out: &mut [u8]) -> Translatio
     let bounds = check_bounds(table, at);
     let within = is_within(bounds);
     if !within {
-        return Translation::Beyond(record_beyond(bounds) as u32);
+        let p = record_beyond(bounds) as u32;
+        return Translation::Beyond(p);
     }
     if !room {
         return Translation::NoRoom;
     }
     write(table, at, reading, records as u32, out);
-    Translation::Done((RECORD_SIZE * records) as u32)
+    let length = (RECORD_SIZE * records) as u32;
+    Translation::Done(length)
 }
 
 // A translation under a reading: what the check refuses comes before all else.

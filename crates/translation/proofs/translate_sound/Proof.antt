@@ -31,8 +31,8 @@ is-within-requires c κs = tt
 record-beyond-requires : tie.Need-record-beyond-requires
 record-beyond-requires c κs = tt
 
-cast-t12 : tie.Need-cast-t12
-cast-t12 c =
+cast-p : tie.Need-cast-p
+cast-p c =
     let d = c .before .before .before .before .before .before .before .before .before in
     omega (arith, beyond-within (d .args .table .now) (c .record-beyond .result) (checked (d .args .table .now) (d .pre)) (beyond-is (c .before .before .before .check-bounds .result) (c .before .before .is-within .ensures) (not-true _ (c .before .if1 .taken)) (c .record-beyond .ensures) ∙ c .before .before .before .check-bounds .ensures))
 
@@ -67,13 +67,13 @@ write-requires c κs =
       ),
     )
 
-mul-t9 : tie.Need-mul-t9
+mul-length : tie.Need-mul-length
 unfolding recordSize
-mul-t9 c = omega (arith, size-given (c .before .before .before .before .before .before .before .before .before .new-records .result) (length (c .before .before .before .before .before .before .before .before .before .before .before .before .before .args .out .now)) (c .before .before .before .before .before .before .before .before .has-room .ensures) (not-false _ (c .before .before .before .before .if2 .left)))
+mul-length c = omega (arith, size-given (c .before .before .before .before .before .before .before .before .before .new-records .result) (length (c .before .before .before .before .before .before .before .before .before .before .before .before .before .args .out .now)) (c .before .before .before .before .before .before .before .before .has-room .ensures) (not-false _ (c .before .before .before .before .if2 .left)))
 
-cast-t14 : tie.Need-cast-t14
+cast-length : tie.Need-cast-length
 unfolding recordSize
-cast-t14 c = omega (arith, size-given (c .before .before .before .before .before .before .before .before .before .new-records .result) (length (c .before .before .before .before .before .before .before .before .before .before .before .before .before .args .out .now)) (c .before .before .before .before .before .before .before .before .has-room .ensures) (not-false _ (c .before .before .before .before .if2 .left)))
+cast-length c = omega (arith, size-given (c .before .before .before .before .before .before .before .before .before .new-records .result) (length (c .before .before .before .before .before .before .before .before .before .before .before .before .before .args .out .now)) (c .before .before .before .before .before .before .before .before .has-room .ensures) (not-false _ (c .before .before .before .before .if2 .left)))
 
 same-length : tie.Need-same-length
 same-length c = c .before .before .write .kept .1 .1 .1 .1 .0
@@ -97,12 +97,12 @@ translate-sound-spec =
     check-bounds-requires
     is-within-requires
     record-beyond-requires
-    cast-t12
+    cast-p
     returns
     returns-2
     cast-write
     write-requires
-    mul-t9
-    cast-t14
+    mul-length
+    cast-length
     same-length
     returns-3)
