@@ -1,7 +1,7 @@
 -- An answer of the check tells its fault: the public check's promise, read as what the calls behind it rely on.
 -- Assumes nothing.
 use mathlib.Core.Path.{_≡_, refl, ap}
-use Prim.Native.Nat.{ℕ, _<_}
+use Prim.Native.Nat.{ℕ}
 use native.Mathlib.Omega.{arith}
 use mathlib.Core.Bool.{false}
 use mathlib.Core.List.{List}
@@ -12,7 +12,7 @@ use Rattle.answers.specs.Answers.{Answer, done, refused}
 use Rattle.verdict.specs.declared.Check.{Check}
 use Rattle.verdict.specs.declared.Check.the-variants.{Sound, BadLength, Misplaced, NotAllowed, NamesNothing, WrongType, OpenConstraint}
 use Rattle.verdict.specs.Results.{refusalOf, answerOf}
-use Rattle.soundness.proofs.Numbered.{Numbered, Refuses, checkFault-numbered, none-numbered, some-numbered}
+use Rattle.soundness.proofs.Numbered.{Refuses, checkFault-numbered, none-numbered, some-numbered}
 
 refusalOf-numbered : (c : Check) → Refuses (refusalOf c)
 refusalOf-numbered Sound = none-numbered

@@ -1,14 +1,13 @@
 -- Which answer each way through the code gives.
 -- Assumes nothing.
 use mathlib.Core.Path.{_≡_, refl, sym, ap, _∙_}
-use mathlib.Core.Logic.{_≢_}
 use Prim.Native.Nat.{ℕ, zero, suc, _+_, _*_, _/_, _≤_, _<_}
 use native.Mathlib.Omega.{arith}
 use mathlib.Core.Bool.{Bool, true, false, cond, _&&_}
-use mathlib.Core.List.{List, [], _++_}
+use mathlib.Core.List.{List, _++_}
 use mathlib.Core.Option.{Option, none, some, Option·map, orElse}
-use borrow.Author.Tests.{ne-eqb, leb-true}
-use lib.Dec.{eqb, leb}
+use borrow.Author.Tests.{leb-true}
+use lib.Dec.{leb}
 use lib.ListN.{length, drop}
 use Rattle.numbers.specs.Limits.{mostBytes}
 use Rattle.language.specs.Readings.{Reading}
@@ -16,7 +15,7 @@ use Rattle.table.specs.Records.{recordSize}
 use Rattle.answers.specs.Check.{Refusal, refuse, firstFault, checkFault}
 use Rattle.answers.specs.Sections.{nodesAt, nodeCount, rows}
 use Rattle.answers.specs.Answers as Answers
-use Rattle.answers.specs.Answers.{Answer, Outcome, refused, done, outcome, readingOf, underChoice, boundsFault, newCount, roomFault, translation, translationFault, translateUnder}
+use Rattle.answers.specs.Answers.{Outcome, refused, done, outcome, readingOf, underChoice, boundsFault, newCount, roomFault, translation, translationFault, translateUnder}
 use Rattle.answers.proofs.FirstFault.{orElse-none, orElse-some}
 use Rattle.answers.proofs.SignedWords.{leb-same}
 use Rattle.answers.proofs.Declared.{length-rows}
@@ -30,10 +29,7 @@ use Rattle.verdict.proofs.Soundness.{sound-none, unsound-some}
 use Rattle.verdict.specs.Results.{isNone}
 use Rattle.verdict.specs.declared.Check.{Check}
 use Rattle.verdict.specs.Results as Verdict
-use Rattle.reading.specs.declared.Choice.{Choice}
-use Rattle.translation.specs.declared.Translation.{Translation}
 use Rattle.translation.specs.declared.Translation.the-variants.{Done, BadChoice, Unsound, Beyond, NoRoom}
-use Rattle.reading.specs.Readings.{chosen}
 use Rattle.translation.specs.Results.{recordBeyond, answerOf, outcomeOf}
 
 -- ---- the choice

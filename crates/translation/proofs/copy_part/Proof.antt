@@ -1,9 +1,9 @@
 -- `translation::copy_part` meets its contract.
 -- Assumes nothing.
-use mathlib.Core.Path.{_≡_, refl, sym, ap, _∙_}
+use mathlib.Core.Path.{_≡_, refl, ap, _∙_}
 use Prim.Native.Nat.{_-_, _≤_}
 use native.Mathlib.Omega.{arith}
-use lib.ListN.{length, set, getD, length-set}
+use lib.ListN.{length, length-set}
 use Rattle.translation.proofs.Copies.{upTo, copied-none, copied-more}
 use Rattle.translation.proofs.copy_part.Statement.{statement}
 use Rattle.translation.proofs.copy_part.Tie as tie

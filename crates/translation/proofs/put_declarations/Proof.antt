@@ -1,8 +1,7 @@
 -- `translation::put_declarations` meets its contract.
 -- Assumes nothing.
-use mathlib.Core.Path.{refl, sym, ap, _∙_}
+use mathlib.Core.Path.{_∙_}
 use native.Mathlib.Omega.{arith}
-use lib.ListN.{length}
 use Rattle.table.specs.Records.{recordSize, recordCount}
 use Rattle.layout.proofs.Order.{laid}
 use Rattle.translation.proofs.Wholes.{before-nodes, nodes-within, front-stores}

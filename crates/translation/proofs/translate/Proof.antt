@@ -1,6 +1,6 @@
 -- `translation::translate` meets its contract: it answers for every input what document 01 says.
 -- Assumes nothing.
-use mathlib.Core.Path.{refl, sym, ap, _∙_}
+use mathlib.Core.Path.{sym, ap, _∙_}
 use borrow.Author.Needs.{needs}
 use Rattle.reading.specs.Readings.{chosen}
 use Rattle.translation.proofs.Outcomes.{refused-choice, under-reading}
