@@ -1,8 +1,8 @@
 -- The walk over the constraints, one after the other.
 -- Assumes nothing.
-use mathlib.Core.Path.{_≡_, refl, sym, ap, ap₂, _∙_}
+use mathlib.Core.Path.{_≡_, refl, sym, ap, _∙_}
 use mathlib.Core.Logic.{⊎-elim}
-use Prim.Native.Nat.{ℕ, zero, suc, _+_, _-_, _≤_, _<_}
+use Prim.Native.Nat.{ℕ, zero, suc, _+_, _-_, _<_}
 use native.Mathlib.Numerals.{add-one}
 use native.Mathlib.Omega.{arith}
 use mathlib.Core.Bool.{Bool, true, false, _&&_}
@@ -15,18 +15,17 @@ use lib.Seq.{take-suc-set}
 use Rattle.numbers.proofs.Naturals.{lt-or-ge}
 use Rattle.language.specs.Readings.{Reading}
 use Rattle.language.specs.Tables.{treeB}
-use Rattle.language.specs.Meaning.{Assignment, calmB, valueB}
+use Rattle.language.specs.Meaning.{Assignment, calmB}
 use Rattle.table.specs.Records.{recordCount, xAt}
-use Rattle.answers.specs.Sections.{listed, constraintsAt, restAt, nodeCount, constraintCount, declarations, nodeTrees, constraints}
+use Rattle.answers.specs.Sections.{listed, constraintsAt, nodeCount, constraintCount, declarations, nodeTrees, constraints}
 use Rattle.answers.specs.Check.{checkFault}
 use Rattle.answers.specs.Answers.{unset, valueOfConstraint, allCalm, verdict, verdicts, allOne}
 use Rattle.answers.proofs.Listed.{length-listed}
 use Rattle.answers.proofs.NodeTrees.{length-rows}
 use Rattle.answers.proofs.ConstraintsFit.{ConstraintPassed, none→ConstraintPassed}
-use Rattle.answers.proofs.Passed.{Passed, checkFault≡none→Passed, Passed→SectionsOrdered, few-records}
+use Rattle.answers.proofs.Passed.{Passed, checkFault≡none→Passed}
 use Rattle.operations.specs.declared.values.Walked.{Walked}
 use Rattle.operations.specs.Values.{ofCalm, ofTruth, truthOf}
-use Rattle.evaluator.specs.Walks as walks
 use Rattle.evaluator.specs.Walks.{Laid, truthWalked, truthAt}
 use Rattle.preparation.specs.Prepared.{Prepared}
 use Rattle.preparation.proofs.Laid.{prepared-laid, truthAt-prepared}
@@ -69,10 +68,6 @@ module _ (table : List ℕ) (sound : checkFault table ≡ none) where
       let one : ConstraintPassed table (constraintsAt table + i) = none→ConstraintPassed table _ (passed .constraints-passed i (omega (arith, c .from, c .before))) in
       let named : ConstraintPassed table p = rw e at one in
       omega (arith, named .node .earlier, length-rows table)
-
-  -- There are as many as fit.
-  pub few-constraints : constraintCount table ≤ 5000
-  few-constraints = omega (arith, Passed→SectionsOrdered table passed, few-records table (passed .few-bytes))
 
 module _ {table bytes places : List ℕ} (ready : Prepared table bytes places) where
   -- The walk may be taken.

@@ -1,29 +1,25 @@
 -- Which answer each way through the code gives.
 -- Assumes nothing.
 use mathlib.Core.Path.{_≡_, refl, sym, ap, _∙_}
-use mathlib.Core.Logic.{_≢_, ⊎-elim}
-use Prim.Native.Nat.{ℕ, _+_, _-_, _≤_, _<_}
+use mathlib.Core.Logic.{⊎-elim}
+use Prim.Native.Nat.{ℕ, _+_, _≤_, _<_}
 use native.Mathlib.Omega.{arith}
 use mathlib.Core.Bool.{Bool, true, false, cond}
-use mathlib.Core.List.{List, [], _++_, map}
+use mathlib.Core.List.{List, _++_}
 use mathlib.Core.Option.{Option, none, some, orElse}
-use borrow.Author.Tests.{ne-eqb, le-leb, lt-leb}
-use lib.Dec.{eqb, leb, leb→le}
+use borrow.Author.Tests.{le-leb, lt-leb}
+use lib.Dec.{leb, leb→le}
 use lib.ListN.{length, take, drop, length-map}
 use Rattle.numbers.proofs.Naturals.{lt-or-ge}
 use Rattle.language.specs.Readings.{Reading}
 use Rattle.language.specs.Meaning.{Assignment}
-use Rattle.answers.specs.Sections.{constraintsAt, restAt, constraintCount, constraints}
+use Rattle.answers.specs.Sections.{constraints}
 use Rattle.answers.specs.Check.{Refusal, refuse, checkFault}
 use Rattle.answers.specs.Answers as Answers
-use Rattle.answers.specs.Answers.{Answer, Outcome, refused, done, outcome, readingOf, underChoice, assignmentFault, totalCost, allCalm, verdicts, allOne, evaluationFault, evaluateUnder}
-use Rattle.answers.proofs.Declared.{length-constraints}
+use Rattle.answers.specs.Answers.{Outcome, refused, outcome, readingOf, underChoice, assignmentFault, totalCost, allCalm, verdicts, evaluationFault, evaluateUnder}
 use Rattle.answers.proofs.Faults.{none-cond}
 use Rattle.answers.proofs.FirstFault.{orElse-none, orElse-some, orElse-left, orElse-right}
-use Rattle.layout.specs.Places.{layoutOf}
-use Rattle.layout.specs.declared.Layout.{Layout}
 use Rattle.layout.proofs.Checked.{checked}
-use Rattle.layout.proofs.Order.{laid}
 use Rattle.steps.specs.Capped.{pastBudgets, capped}
 use Rattle.steps.proofs.Caps.{capped-low, capped-high}
 use Rattle.soundness.proofs.Sound.{answered→fault}
@@ -39,7 +35,7 @@ use Rattle.evaluation.specs.declared.Totals.{Totals}
 use Rattle.evaluation.specs.declared.Evaluation.{Evaluation}
 use Rattle.evaluation.specs.declared.Evaluation.the-variants.{Done, BadChoice, Unsound, Unassigned, NoRoom, OverBudget, BeyondLimit}
 use Rattle.evaluation.specs.Results.{answerOf, outcomeOf}
-use Rattle.evaluation.specs.Admissions.{faultBefore, outcomeAfter, admissionFault, Admits}
+use Rattle.evaluation.specs.Admissions.{faultBefore, outcomeAfter, Admits}
 
 -- ---- the choice
 

@@ -11,7 +11,7 @@ ghost use Rattle.answers.specs.Answers.{assignmentFault, totalCost, evaluateUnd
 ghost use Rattle.layout.specs.Places.{layoutOf};
 ghost use Rattle.reading.specs.Readings.{meant};
 ghost use Rattle.evaluation.specs.Results.{outcomeOf};
-ghost use Rattle.evaluation.specs.Admissions.{faultBefore, outcomeAfter, Admits};
+ghost use Rattle.evaluation.specs.Admissions.{outcomeAfter, Admits};
 use assignment::Assigned;
 use assignment::check_assignment;
 use constraints::constraint_values;

@@ -10,10 +10,10 @@ use lib.IntN.{ℤ, natAbs}
 use lib.ListN.{length, replicate}
 use Rattle.numbers.specs.Limits.{mostBytes}
 use Rattle.language.specs.Tables.{Row, truthRow}
-use Rattle.table.specs.Records.{recordSize, recordCount, kindAt, xAt, yAt}
-use Rattle.table.specs.Kinds.{Kind, kindOf}
+use Rattle.table.specs.Records.{recordSize, recordCount, yAt}
+use Rattle.table.specs.Kinds.{kindOf}
 use Rattle.table.proofs.Alike.{Alike, Alike-left, kindAt-alike, xAt-alike, yAt-alike}
-use Rattle.answers.specs.Sections.{listed, elementOf, arrayOf, behindArray, rowOf}
+use Rattle.answers.specs.Sections.{elementOf, arrayOf, behindArray, rowOf}
 use Rattle.answers.proofs.Listed.{listed-agree}
 use Rattle.answers.proofs.SameFaults.{elementOf-alike}
 use Rattle.preparation.specs.Prepared.{padded}

@@ -1,22 +1,22 @@
 -- A table that has passed, made ready, is laid out as the walk relies on, and declares what it declared.
 -- Assumes nothing.
-use mathlib.Core.Path.{_≡_, refl, sym, ap, fun-ext, _∙_}
-use Prim.Native.Nat.{ℕ, zero, suc, _+_, _-_, _*_, _≤_, _<_}
+use mathlib.Core.Path.{_≡_, refl, ap, fun-ext, _∙_}
+use Prim.Native.Nat.{ℕ, zero, suc, _+_, _-_, _≤_, _<_}
 use native.Mathlib.Omega.{arith}
 use mathlib.Core.List.{List, [], _∷_, map}
 use mathlib.Core.Option.{none}
 use lib.Dec.{leb→le}
-use lib.IntN.{ℤ, pos, natAbs}
+use lib.IntN.{pos, natAbs}
 use lib.ListN.{length, getD, take, replicate}
 use lib.Seq.{ext-getD, getD-take, length-take-le}
-use Rattle.numbers.specs.Limits.{mostBytes, mostSlots, mostSlotValues, mostArrays, reach}
+use Rattle.numbers.specs.Limits.{mostSlotValues, reach}
 use Rattle.numbers.proofs.Tests.{&&-fst, &&-snd}
 use Rattle.language.specs.Syntax.{Variable, Slot, Array, Declarations}
-use Rattle.language.specs.Tables.{Tree, trees, treeB}
+use Rattle.language.specs.Tables.{trees, treeB}
 use Rattle.language.specs.Readings.{Reading}
-use Rattle.language.specs.Meaning.{Assignment, Setting, count}
-use Rattle.table.specs.Records.{recordSize, recordCount}
-use Rattle.answers.specs.Sections.{listed, variablesAt, slotsAt, arraysAt, nodesAt, constraintsAt, variableCount, slotCount, arrayRecords, nodeCount, variableOf, slotOf, arrayOf, behindArray, rowOf, declarations, rows, nodeTrees}
+use Rattle.language.specs.Meaning.{Assignment, count}
+use Rattle.table.specs.Records.{recordCount}
+use Rattle.answers.specs.Sections.{listed, variablesAt, slotsAt, arraysAt, nodesAt, variableCount, slotCount, arrayRecords, nodeCount, variableOf, slotOf, arrayOf, behindArray, rowOf, declarations, rows, nodeTrees}
 use Rattle.answers.specs.Check.{near, slotFault}
 use Rattle.answers.specs.Answers.{unset}
 use Rattle.answers.proofs.Faults.{none-unless}
@@ -24,10 +24,8 @@ use Rattle.answers.proofs.Listed.{listed-agree}
 use Rattle.answers.proofs.SameFaults.{variableOf-alike, slotOf-alike}
 use Rattle.answers.proofs.ArrayRuns.{ArraysPassed-at}
 use Rattle.answers.proofs.Passed.{Passed, SectionsOrdered, Passed→SectionsOrdered, few-records}
-use Rattle.operations.specs.Values.{ofCalm, ofTruth}
 use Rattle.evaluator.specs.Walks as walks
 use Rattle.evaluator.specs.Walks.{slotsFrom, declared, treesOf, rowAt, Laid, settingOf, truthWalked, truthAt}
-use Rattle.operations.specs.declared.values.Walked.{Walked}
 use Rattle.preparation.specs.Prepared.{padded, PlacesOf}
 use Rattle.preparation.proofs.Alike.{padded-alike, rowOf-padded, behindArray-padded, arrayOf-padded}
 use Rattle.preparation.proofs.Below.{passed-below}

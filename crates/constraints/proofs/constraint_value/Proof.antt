@@ -1,6 +1,6 @@
 -- `constraints::constraint_value` meets its contract.
 -- Assumes nothing.
-use mathlib.Core.Path.{refl, sym, ap, _∙_}
+use mathlib.Core.Path.{ap, _∙_}
 use native.Mathlib.Omega.{arith}
 use Rattle.layout.proofs.Runs.{within-table}
 use Rattle.layout.proofs.Words.{xAt-natAbs-≤}

@@ -1,15 +1,14 @@
 -- `constraints::constraint_values` meets its contract.
 -- Assumes nothing.
-use mathlib.Core.Path.{refl, sym, ap, _∙_}
+use mathlib.Core.Path.{refl, ap}
 use Prim.Native.Nat.{_+_, _-_, _≤_}
 use native.Mathlib.Omega.{arith}
-use borrow.Author.Needs.{needs}
 use borrow.Author.Tests.{not-true, not-false}
 use Rattle.answers.specs.Sections.{constraintCount}
 use Rattle.layout.proofs.Checked.{checked}
 use Rattle.layout.proofs.Order.{laid}
 use Rattle.reading.specs.Readings.{meant}
-use Rattle.constraints.proofs.Walking.{Walked-so-far, few-constraints, walked-none, walked-more, walked-beyond, walked-all}
+use Rattle.constraints.proofs.Walking.{Walked-so-far, walked-none, walked-more, walked-beyond, walked-all}
 use Rattle.constraints.proofs.constraint_values.Statement.{statement}
 use Rattle.constraints.proofs.constraint_values.Tie as tie
 

@@ -3,7 +3,7 @@
 use mathlib.Core.Path.{refl}
 use Prim.Native.Nat.{_-_, _≤_}
 use native.Mathlib.Omega.{arith}
-use lib.ListN.{length, getD}
+use lib.ListN.{getD}
 use Rattle.numbers.specs.Limits.{mostBytes}
 use Rattle.preparation.proofs.Stored.{Stored, stored-none, stored-more, stored-padded}
 use Rattle.preparation.proofs.fill.Statement.{statement}
