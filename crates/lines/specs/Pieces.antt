@@ -3,7 +3,6 @@
 use Prim.Native.Nat.{ℕ, _+_, _*_}
 use mathlib.Core.List.{List, [], _∷_, _++_}
 use Rattle.table.specs.Records.{recordSize, byteAt, kindAt, auxAt}
-use Rattle.answers.specs.Check.{Refusal}
 use Rattle.answers.specs.Listing.{decimal, space, refusalLine}
 
 -- a mark of two letters, two numbers of at most three digits, two of at most ten and a sign, four spaces and a newline

@@ -1,20 +1,20 @@
 -- What a translation gives tells the listing's text.
 -- Assumes nothing.
-use mathlib.Core.Path.{_≡_, refl, sym, ap, _∙_}
-use Prim.Native.Nat.{ℕ, zero, suc, _+_, _*_, _/_, _≤_, _<_}
+use mathlib.Core.Path.{_≡_, refl, ap, _∙_}
+use Prim.Native.Nat.{ℕ, zero, suc, _+_, _*_, _≤_, _<_}
 use native.Mathlib.Nat.{mul-div-right, mul-suc, add-zero}
 use native.Mathlib.Omega.{arith}
 use mathlib.Core.Bool.{Bool, true, false, cond, _&&_}
-use mathlib.Core.List.{List, [], _∷_, _++_}
+use mathlib.Core.List.{List, [], _++_}
 use mathlib.Core.Option.{Option, none, some, Option·map, orElse}
 use borrow.Author.Tests.{ne-eqb}
-use lib.Dec.{eqb, leb}
-use lib.ListN.{length, drop, length-append}
+use lib.Dec.{leb}
+use lib.ListN.{length, length-append}
 use Rattle.numbers.specs.Limits.{mostBytes}
 use Rattle.language.specs.Readings.{Reading}
 use Rattle.language.specs.Tables.{treeAt}
 use Rattle.rules.specs.Bounds.{withinBounds}
-use Rattle.table.specs.Records.{recordSize, byteAt, kindAt, auxAt, xAt, yAt}
+use Rattle.table.specs.Records.{recordSize, byteAt}
 use Rattle.table.proofs.Alike.{Alike, Alike-left, kindAt-alike, auxAt-alike, xAt-alike, yAt-alike}
 use Rattle.table.proofs.Marks.{0<recordSize}
 use Rattle.answers.specs.Sections.{nodesAt, declarations, rows, nodeTrees}
@@ -24,7 +24,7 @@ use Rattle.answers.specs.Listing.{lineOf, linesOf, listingUnder, listingOf}
 use Rattle.answers.proofs.Faults.{none-orElse}
 use Rattle.answers.proofs.Passed.{checkFault≡none→Passed}
 use Rattle.answers.proofs.NewRecords.{length-translation}
-use Rattle.soundness.proofs.Numbered.{Numbered, Refuses, none-numbered, some-numbered, checkFault-numbered}
+use Rattle.soundness.proofs.Numbered.{Refuses, none-numbered, some-numbered, checkFault-numbered}
 use Rattle.lines.specs.Pieces.{refusalText}
 use Rattle.listing.specs.Texts.{textFor, textOf}
 

@@ -4,7 +4,6 @@ use Prim.Native.Nat.{_+_, _*_}
 use native.Mathlib.Omega.{arith}
 use mathlib.Core.Path.{_∙_}
 use mathlib.Core.List.{[], _∷_, _++_}
-use lib.ListN.{length-append}
 use Rattle.table.specs.Records.{recordSize, recordCount, byteAt}
 use Rattle.answers.specs.Listing.{space, decimal}
 use Rattle.lines.proofs.Digits.{length-byte}

@@ -5,8 +5,6 @@ use lib.ListN.{length-set}
 use borrow.Author.Needs.{needs}
 use Rattle.lines.proofs.put_refused.Statement.{statement}
 use Rattle.lines.proofs.put_refused.Tie as tie
-use Rattle.lines.proofs.put_refused.Reads as reads
-use Rattle.lines.proofs.put_refused.Lts as lts
 
 slice-write-text : tie.Need-slice-write-text
 slice-write-text c = search needs

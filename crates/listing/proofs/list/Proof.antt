@@ -1,9 +1,7 @@
 -- `listing::list` meets its contract: with no input the choice is 0; else the table stands behind the first byte.
 -- Assumes nothing.
 use native.Mathlib.Omega.{arith}
-use mathlib.Core.Path.{_≡_, refl, sym, ap, _∙_}
-use lib.ListN.{drop}
-use Rattle.answers.specs.Listing.{listing, listingOf, choiceOf}
+use mathlib.Core.Path.{sym}
 use Rattle.listing.proofs.Pieces.{no-input, some-input, text-first}
 use borrow.Author.Needs.{needs}
 use Rattle.listing.proofs.list.Statement.{statement}

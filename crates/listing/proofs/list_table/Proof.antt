@@ -1,12 +1,11 @@
 -- `listing::list_table` meets its contract: the text for what the translation into 60,000 bytes gives.
 -- Assumes nothing.
-use Prim.Native.Nat.{ℕ, _≤_}
+use Prim.Native.Nat.{ℕ}
 use native.Mathlib.Omega.{arith}
-use mathlib.Core.Path.{_≡_, refl, sym, ap, _∙_}
+use mathlib.Core.Path.{_≡_, ap, _∙_}
 use lib.ListN.{length, replicate, length-replicate}
 use lib.Seq.{sets}
 use Rattle.numbers.specs.Limits.{mostBytes}
-use Rattle.translation.specs.Results.{answerOf}
 use Rattle.listing.proofs.Told.{answer-text, answer-within}
 use borrow.Author.Needs.{needs}
 use Rattle.listing.proofs.list_table.Statement.{statement}

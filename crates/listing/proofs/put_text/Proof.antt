@@ -1,8 +1,7 @@
 -- `listing::put_text` meets its contract.
 -- Assumes nothing.
-use Prim.Native.Nat.{_*_, _/_, _≤_}
 use native.Mathlib.Omega.{arith}
-use mathlib.Core.Path.{_≡_, sym, ap, _∙_}
+use mathlib.Core.Path.{sym, ap, _∙_}
 use lib.ListN.{length}
 use lib.Seq.{sets}
 use Rattle.table.specs.Records.{recordSize, recordCount}
