@@ -3,10 +3,9 @@
 use mathlib.Core.Option.{Option, none}
 use Rattle.answers.specs.Check.{Refusal, refuse}
 use Rattle.assignment.specs.declared.Assigned.{Assigned}
-use Rattle.assignment.specs.declared.Assigned.the-variants.{Fits, WrongLength, Outside}
+use Rattle.assignment.specs.declared.Assigned.the-variants.{Fits, Refused}
 
 -- "10: assignment of wrong length, or first value outside its domain: 0; that VR"
 abbrev pub refusalOf : Assigned → Option Refusal
 refusalOf Fits = none
-refusalOf WrongLength = refuse 10 0
-refusalOf (Outside p) = refuse 10 p
+refusalOf (Refused p) = refuse 10 p

@@ -15,10 +15,8 @@ use layout::fields::y_at;
 pub enum Assigned {
     // One value for each variable, within its domain.
     Fits,
-    // More or fewer values than variables.
-    WrongLength,
-    // The record of the first variable whose value is outside its domain.
-    Outside(u32),
+    // Record 0 for more or fewer values than variables, else that of the first variable whose value is outside its domain.
+    Refused(u32),
 }
 
 // The value is within the domain of record p.
@@ -42,12 +40,12 @@ pub fn check_assignment(s: &[u8], at: Layout, assignment: &[i32]) -> Assigned
 {
     let count = at.slots - 1;
     if assignment.len() != count {
-        return Assigned::WrongLength;
+        return Assigned::Refused(0);
     }
     let mut v = 0;
     while v < count {
         if !inside(s, 1 + v, assignment[v]) {
-            return Assigned::Outside(1 + v as u32);
+            return Assigned::Refused(1 + v as u32);
         }
         v += 1;
     }

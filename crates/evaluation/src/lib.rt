@@ -91,8 +91,7 @@ fn admit(table: &[u8], at: Layout, assignment: &[i32], budget: u32, room: usize)
 {
     match check_assignment(table, at, assignment) {
         Assigned::Fits => admit_assigned(table, at, assignment, budget, room),
-        Assigned::WrongLength => Admission::Unassigned(0),
-        Assigned::Outside(p) => Admission::Unassigned(p),
+        Assigned::Refused(p) => Admission::Unassigned(p),
     }
 }
 

@@ -17,9 +17,6 @@ enum-told c = search needs
 admit-assigned-requires : tie.Need-admit-assigned-requires
 admit-assigned-requires c κs = let e = c .before .before .before .before in (e .pre .0, (e .pre .1, sym (c .before .before .check-assignment .ensures) ∙ ap refusalOf (c .enum-told .given .1)))
 
-enum-told-2 : tie.Need-enum-told-2
-enum-told-2 c = search needs
-
 enum-known-p : tie.Need-enum-known-p
 enum-known-p c = search needs
 
@@ -27,10 +24,7 @@ returns : tie.Need-returns
 returns c = c .admit-assigned .ensures
 
 returns-2 : tie.Need-returns-2
-returns-2 c = admits-unassigned _ _ _ _ 0 (sym (ap refusalOf (c .enum-told2 .given .1)) ∙ c .before .before .check-assignment .ensures)
-
-returns-3 : tie.Need-returns-3
-returns-3 c = admits-unassigned _ _ _ _ _ (sym (ap refusalOf (c .before .p .given .1)) ∙ c .before .before .before .check-assignment .ensures)
+returns-2 c = admits-unassigned _ _ _ _ _ (sym (ap refusalOf (c .before .p .given .1)) ∙ c .before .before .before .check-assignment .ensures)
 
 pub admit-spec : {M : Type 1} → statement M
 admit-spec =
@@ -39,8 +33,6 @@ admit-spec =
     check-assignment-requires
     enum-told
     admit-assigned-requires
-    enum-told-2
     enum-known-p
     returns
-    returns-2
-    returns-3)
+    returns-2)
