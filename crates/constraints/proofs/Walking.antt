@@ -1,8 +1,8 @@
 -- The walk over the constraints, one after the other.
 -- Assumes nothing.
-use mathlib.Core.Path.{_≡_, refl, sym, ap, _∙_}
+use mathlib.Core.Path.{_≡_, refl, sym, ap, ap₂, _∙_}
 use mathlib.Core.Logic.{⊎-elim}
-use Prim.Native.Nat.{ℕ, zero, suc, _+_, _-_, _<_}
+use Prim.Native.Nat.{ℕ, zero, suc, _+_, _-_, _≤_, _<_}
 use native.Mathlib.Numerals.{add-one}
 use native.Mathlib.Omega.{arith}
 use mathlib.Core.Bool.{Bool, true, false, _&&_}
@@ -10,8 +10,8 @@ use mathlib.Core.List.{List, [], _∷_, _++_, map, map-append}
 use mathlib.Core.Option.{Option, none, some}
 use lib.Dec.{eqb}
 use lib.IntN.{pos, natAbs}
-use lib.ListN.{length, take, set, replicate, length-set, length-replicate}
-use lib.Seq.{take-suc-set}
+use lib.ListN.{length, take, drop, set, replicate, length-set, length-replicate, length-map, take-append-drop}
+use lib.Seq.{take-suc-set, drop-set-lt, drop-drop}
 use Rattle.numbers.proofs.Naturals.{lt-or-ge}
 use Rattle.language.specs.Readings.{Reading}
 use Rattle.language.specs.Tables.{treeB}
@@ -23,14 +23,13 @@ use Rattle.answers.specs.Answers.{unset, valueOfConstraint, allCalm, verdict, v
 use Rattle.answers.proofs.Listed.{length-listed}
 use Rattle.answers.proofs.NodeTrees.{length-rows}
 use Rattle.answers.proofs.ConstraintsFit.{ConstraintPassed, none→ConstraintPassed}
-use Rattle.answers.proofs.Passed.{Passed, checkFault≡none→Passed}
+use Rattle.answers.proofs.Passed.{Passed, checkFault≡none→Passed, Passed→SectionsOrdered, few-records}
 use Rattle.operations.specs.declared.values.Walked.{Walked}
 use Rattle.operations.specs.Values.{ofCalm, ofTruth, truthOf}
 use Rattle.evaluator.specs.Walks.{Laid, truthWalked, truthAt}
 use Rattle.preparation.specs.Prepared.{Prepared}
 use Rattle.preparation.proofs.Laid.{prepared-laid, truthAt-prepared}
-use Rattle.constraints.specs.declared.Verdicts.{Verdicts}
-use Rattle.constraints.specs.Verdicts.{byteOf, walkedAt, ConstraintAt, VerdictsOf}
+use Rattle.constraints.specs.Verdicts.{byteOf, walkedAt, ConstraintAt, verdictsOf}
 
 -- ---- tests
 
@@ -41,9 +40,6 @@ use Rattle.constraints.specs.Verdicts.{byteOf, walkedAt, ConstraintAt, V
 &&-false : (a : Bool) → (a && false) ≡ false
 &&-false true = refl
 &&-false false = refl
-
-clash : {A : Type 0} → true ≡ false → A
-clash e = let z : _≡_ {A = ℕ} 0 1 = cc in absurd (omega arith)
 
 &&-assoc : (a b c : Bool) → (a && (b && c)) ≡ ((a && b) && c)
 &&-assoc true b c = refl
@@ -68,6 +64,10 @@ module _ (table : List ℕ) (sound : checkFault table ≡ none) where
       let one : ConstraintPassed table (constraintsAt table + i) = none→ConstraintPassed table _ (passed .constraints-passed i (omega (arith, c .from, c .before))) in
       let named : ConstraintPassed table p = rw e at one in
       omega (arith, named .node .earlier, length-rows table)
+
+  -- There are as many as fit.
+  pub few-constraints : constraintCount table ≤ 5000
+  few-constraints = omega (arith, Passed→SectionsOrdered table passed, few-records table (passed .few-bytes))
 
 module _ {table bytes places : List ℕ} (ready : Prepared table bytes places) where
   -- The walk may be taken.
@@ -97,6 +97,7 @@ module _ (table : List ℕ) (ρ : Reading) (α : Assignment) where
     pub sized : length bytes ≡ 5000
     pub calm : allCalm table ρ α (listed i nodeAt) ≡ true
     pub written : take i bytes ≡ map byteAt (listed i nodeAt)
+    pub zeros : drop i bytes ≡ replicate (5000 - i) 0
     pub all-one : all ≡ allOne table ρ α (map byteAt (listed i nodeAt))
 
   -- ---- one more
@@ -132,7 +133,10 @@ module _ (table : List ℕ) (ρ : Reading) (α : Assignment) where
 
   pub walked-none : Walked-so-far (replicate 5000 0) true 0
   unfolding listed allCalm allOne
-  walked-none = record { sized = length-replicate {A = ℕ} 5000 0; calm = refl; written = refl; all-one = refl }
+  walked-none = record { sized = length-replicate {A = ℕ} 5000 0; calm = refl; written = refl; zeros = refl; all-one = refl }
+
+  one-less : (i : ℕ) → i < 5000 → 5000 - i ≡ suc (5000 - (i + 1))
+  one-less i l = omega arith
 
   pub walked-more : {bytes : List ℕ} {all : Bool} {i p v : ℕ} {w : Walked} → Walked-so-far bytes all i → i < 5000 → p ≡ constraintsAt table + i
       → w ≡ walkedAt table ρ α (natAbs (xAt table p)) → w .calm ≡ true → v ≡ byteOf (truthOf (w .value))
@@ -145,6 +149,7 @@ module _ (table : List ℕ) (ρ : Reading) (α : Assignment) where
         sized = length-set bytes i v ∙ s .sized;
         calm = rw (add-one i, allCalm-snoc (listed i nodeAt) (nodeAt i), s .calm) (sym (walked-calm (nodeAt i) (e ∙ at)) ∙ c);
         written = rw (add-one i, take-suc-set bytes i v (omega (arith, s .sized)), s .written, b) (sym (map-append byteAt (listed i nodeAt) (nodeAt i ∷ [])));
+        zeros = drop-set-lt (i + 1) bytes i v (omega arith) ∙ sym (drop-drop 1 i bytes) ∙ ap (drop 1) (s .zeros ∙ ap (λ n. replicate n 0) (one-less i l));
         all-one = rw (add-one i, map-append, allOne-snoc (map byteAt (listed i nodeAt)) (byteAt (nodeAt i)), s .all-one, b);
       }
 
@@ -162,24 +167,18 @@ module _ (table : List ℕ) (ρ : Reading) (α : Assignment) where
       last : i ≡ n → (allCalm table ρ α (listed n nodeAt) && calmAt (nodeAt n)) ≡ false
       last q = rw (← q, e) (&&-false (allCalm table ρ α (listed i nodeAt)))
 
-  pub walked-beyond : {i p : ℕ} {w : Walked} {r : Verdicts} → length (r .bytes) ≡ 5000 → i < constraintCount table → p ≡ constraintsAt table + i
-      → w ≡ walkedAt table ρ α (natAbs (xAt table p)) → w .calm ≡ false → r .calm ≡ false → VerdictsOf table ρ α r
-  unfolding constraints
-  walked-beyond {i} long l q e c f =
-      record {
-        long = long;
-        calm = f ∙ sym (calm-not (constraintCount table) i l (ap (λ j. calmAt (natAbs (xAt table j))) (sym q) ∙ sym (walked-calm _ e) ∙ c));
-        bytes = λ t. clash (sym t ∙ f);
-        all = λ t. clash (sym t ∙ f);
-      }
+  pub walked-beyond : {i p : ℕ} {w : Walked} → i < constraintCount table → p ≡ constraintsAt table + i
+      → w ≡ walkedAt table ρ α (natAbs (xAt table p)) → w .calm ≡ false
+      → record { bytes = replicate 5000 0; calm = false; all = false } ≡ verdictsOf table ρ α
+  unfolding constraints verdictsOf
+  walked-beyond {i} l q e c = rw (calm-not (constraintCount table) i l (ap (λ j. calmAt (natAbs (xAt table j))) (sym q) ∙ sym (walked-calm _ e) ∙ c))
 
   -- and where all are, they are the table's.
-  pub walked-all : {all : Bool} {i : ℕ} {r : Verdicts} → Walked-so-far (r .bytes) all i → i ≡ constraintCount table → r .calm ≡ true → r .all ≡ all → VerdictsOf table ρ α r
-  unfolding constraints verdicts
-  walked-all {i = i} s q c a =
-      record {
-        long = s .sized;
-        calm = c ∙ sym (rw q at (s .calm));
-        bytes = λ t. rw length-listed (rw q at (s .written));
-        all = λ t. a ∙ rw q at (s .all-one);
-      }
+  pub walked-all : {bytes : List ℕ} {all : Bool} {i : ℕ} → Walked-so-far bytes all i → i ≡ constraintCount table
+      → record { bytes = bytes; calm = true; all = all } ≡ verdictsOf table ρ α
+  unfolding constraints verdicts verdictsOf
+  walked-all {bytes} {all} {i} s q =
+      let calm : allCalm table ρ α (listed (constraintCount table) nodeAt) ≡ true = rw q at (s .calm) in
+      let counted : length (map byteAt (listed i nodeAt)) ≡ i = length-map (listed i nodeAt) byteAt ∙ length-listed i nodeAt in
+      let whole : bytes ≡ map byteAt (listed i nodeAt) ++ replicate (5000 - length (map byteAt (listed i nodeAt))) 0 = sym (take-append-drop i bytes) ∙ ap₂ _++_ (s .written) (s .zeros ∙ ap (λ n. replicate (5000 - n) 0) (sym counted)) in
+      rw (calm, ← q) (ap₂ (λ (b : List ℕ) (a : Bool). record { bytes = b; calm = true; all = a }) whole (s .all-one))

@@ -1,11 +1,10 @@
 -- What one assignment makes of a table's constraints, as the code has it.
 -- Assumes nothing.
-use mathlib.Core.Path.{_≡_}
-use Prim.Native.Nat.{ℕ, _≤_, _<_}
-use mathlib.Core.Bool.{Bool, true, false}
-use mathlib.Core.List.{List}
+use Prim.Native.Nat.{ℕ, _-_, _≤_, _<_}
+use mathlib.Core.Bool.{Bool, true, false, cond}
+use mathlib.Core.List.{List, _++_}
 use mathlib.Core.Option.{Option, none, some}
-use lib.ListN.{length, take}
+use lib.ListN.{length, replicate}
 use Rattle.language.specs.Readings.{Reading}
 use Rattle.language.specs.Tables.{treeB}
 use Rattle.language.specs.Meaning.{Assignment}
@@ -30,9 +29,9 @@ pub record ConstraintAt (table : List ℕ) (p : ℕ) : Type 0 where
   pub from : constraintsAt table ≤ p
   pub before : p < restAt table
 
--- Whether the walk over all constraints stayed within the limit; and if so, their bytes from byte 0 on and whether all are 1.
-pub record VerdictsOf (table : List ℕ) (ρ : Reading) (α : Assignment) (r : Verdicts) : Type 0 where
-  pub long : length (r .bytes) ≡ 5000
-  pub calm : r .calm ≡ allCalm table ρ α (constraints table)
-  pub bytes : r .calm ≡ true → take (length (constraints table)) (r .bytes) ≡ verdicts table ρ α
-  pub all : r .calm ≡ true → r .all ≡ allOne table ρ α (verdicts table ρ α)
+-- the constraints' bytes and 0 behind them, and whether all are 1; beyond the limit only zeros, and a no
+unfoldable pub verdictsOf : List ℕ → Reading → Assignment → Verdicts
+verdictsOf table ρ α =
+    cond (allCalm table ρ α (constraints table))
+    (record { bytes = verdicts table ρ α ++ replicate (5000 - length (verdicts table ρ α)) 0; calm = true; all = allOne table ρ α (verdicts table ρ α) })
+    (record { bytes = replicate 5000 0; calm = false; all = false })

@@ -6,7 +6,7 @@ ghost use Rattle.layout.specs.Places.{layoutOf};
 ghost use Rattle.reading.specs.Readings.{meant};
 ghost use Rattle.operations.specs.Values.{truthOf};
 ghost use Rattle.preparation.specs.Prepared.{Prepared};
-ghost use Rattle.constraints.specs.Verdicts.{byteOf, walkedAt, ConstraintAt, VerdictsOf};
+ghost use Rattle.constraints.specs.Verdicts.{byteOf, walkedAt, ConstraintAt, verdictsOf};
 use evaluator::walk::constraint;
 use layout::Layout;
 use layout::fields::name_x;
@@ -16,7 +16,7 @@ use reading::Reading;
 use table::NodeNumber;
 
 // One byte per constraint from byte 0 on, whether no integer node met was beyond the limit, and whether all bytes are 1.
-// Past the limit only that counts.
+// Past the limit: zeros, and a no.
 pub struct Verdicts {
     pub bytes: [u8; 5000],
     pub calm: bool,
@@ -62,7 +62,7 @@ pub fn constraint_values(
 ) -> Verdicts
     requires { ⌜ Prepared (now s) (now t) (now places) ⌝ }
     requires { ⌜ at ≡ layoutOf (now s) ⌝ }
-    ensures { λ r. ⌜ VerdictsOf (now (s .entry)) (meant reading) (now (assignment .entry)) r ⌝ }
+    ensures { λ r. ⌜ r ≡ verdictsOf (now (s .entry)) (meant reading) (now (assignment .entry)) ⌝ }
 {
     let mut bytes = [0u8; 5000];
     let mut all = true;
@@ -72,8 +72,9 @@ pub fn constraint_values(
     while i < count {
         let walked = constraint_value(s, t, places, assignment, reading, first + i);
         if !walked.calm {
+            let zeros = [0u8; 5000];
             return Verdicts {
-                bytes: bytes,
+                bytes: zeros,
                 calm: false,
                 all: false,
             };

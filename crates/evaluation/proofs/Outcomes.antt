@@ -9,14 +9,14 @@ use mathlib.Core.List.{List, _++_}
 use mathlib.Core.Option.{Option, none, some, orElse}
 use borrow.Author.Tests.{le-leb, lt-leb}
 use lib.Dec.{leb, leb→le}
-use lib.ListN.{length, take, drop, length-map}
+use lib.ListN.{length, take, drop}
 use Rattle.numbers.proofs.Naturals.{lt-or-ge}
 use Rattle.language.specs.Readings.{Reading}
 use Rattle.language.specs.Meaning.{Assignment}
 use Rattle.answers.specs.Sections.{constraints}
 use Rattle.answers.specs.Check.{Refusal, refuse, checkFault}
 use Rattle.answers.specs.Answers as Answers
-use Rattle.answers.specs.Answers.{Outcome, refused, outcome, readingOf, underChoice, assignmentFault, totalCost, allCalm, verdicts, evaluationFault, evaluateUnder}
+use Rattle.answers.specs.Answers.{Outcome, refused, outcome, readingOf, underChoice, assignmentFault, totalCost, allCalm, verdicts, allOne, evaluationFault, evaluateUnder}
 use Rattle.answers.proofs.Faults.{none-cond}
 use Rattle.answers.proofs.FirstFault.{orElse-none, orElse-some, orElse-left, orElse-right}
 use Rattle.layout.proofs.Checked.{checked}
@@ -28,11 +28,10 @@ use Rattle.verdict.specs.declared.Check.{Check}
 use Rattle.verdict.specs.Results as Verdict
 use Rattle.verdict.specs.Results.{isNone}
 use Rattle.constraints.specs.declared.Verdicts.{Verdicts}
-use Rattle.constraints.specs.Verdicts.{VerdictsOf}
-use Rattle.evaluation.specs.declared.Admission.{Admission}
+use Rattle.constraints.specs.Verdicts.{verdictsOf}
+use Rattle.constraints.proofs.Found.{length-verdicts, verdictsOf-calm, verdictsOf-bytes, verdictsOf-all, verdictsOf-long}
 use Rattle.evaluation.specs.declared.Admission.the-variants as admission
 use Rattle.evaluation.specs.declared.Totals.{Totals}
-use Rattle.evaluation.specs.declared.Evaluation.{Evaluation}
 use Rattle.evaluation.specs.declared.Evaluation.the-variants.{Done, BadChoice, Unsound, Unassigned, NoRoom, OverBudget, BeyondLimit}
 use Rattle.evaluation.specs.Results.{answerOf, outcomeOf}
 use Rattle.evaluation.specs.Admissions.{faultBefore, outcomeAfter, Admits}
@@ -149,22 +148,27 @@ module _ (table : List ℕ) (ρ : Reading) (α : Assignment) (budget : ℕ) (len
 
 -- ---- after the walk
 
-length-verdicts : (table : List ℕ) (ρ : Reading) (α : Assignment) → length (verdicts table ρ α) ≡ length (constraints table)
-unfolding verdicts
-length-verdicts table ρ α = rw length-map
+module _ (table : List ℕ) (ρ : Reading) (α : Assignment) {found : Verdicts} (walked : found ≡ verdictsOf table ρ α) where
+  -- The bytes are as many as `write` asks for.
+  pub long-enough : checkFault table ≡ none → length (found .bytes) ≡ 5000
+  long-enough sound = ap (λ (r : Verdicts). length (r .bytes)) walked ∙ verdictsOf-long table ρ α sound
 
-module _ (table : List ℕ) (ρ : Reading) (α : Assignment) (lent : List ℕ) {found : Verdicts} (walked : VerdictsOf table ρ α found) where
-  -- 8 comes last,
-  pub refused-limit : found .calm ≡ false → outcomeOf BeyondLimit lent ≡ outcomeAfter table α ρ lent
-  unfolding outcomeAfter outcome answerOf
-  refused-limit e = let calm : allCalm table ρ α (constraints table) ≡ false = sym (walked .calm) ∙ e in rw calm
+  calm-or-not : {b : Bool} → found .calm ≡ b → allCalm table ρ α (constraints table) ≡ b
+  calm-or-not e = sym (verdictsOf-calm table ρ α) ∙ sym (ap (λ (r : Verdicts). r .calm) walked) ∙ e
 
-  -- and then the bytes are written.
-  pub written : {totals : Totals} {after : List ℕ} → found .calm ≡ true → totals .steps ≡ totalCost table → totals .written ≡ length (constraints table) → totals .all ≡ found .all
-      → after ≡ take (totals .written) (found .bytes) ++ drop (totals .written) lent → outcomeOf (Done totals) after ≡ outcomeAfter table α ρ lent
-  unfolding outcomeAfter outcome answerOf
-  written {totals} {after} c s w a e =
-      let calm : allCalm table ρ α (constraints table) ≡ true = sym (walked .calm) ∙ c in
-      let bytes : take (totals .written) (found .bytes) ≡ verdicts table ρ α = rw w (walked .bytes c) in
-      let count : totals .written ≡ length (verdicts table ρ α) = w ∙ sym (length-verdicts table ρ α) in
-      rw (calm, e, bytes, s, count, a, walked .all c)
+  module _ (lent : List ℕ) where
+    -- 8 comes last,
+    pub refused-limit : found .calm ≡ false → outcomeOf BeyondLimit lent ≡ outcomeAfter table α ρ lent
+    unfolding outcomeAfter outcome answerOf
+    refused-limit e = rw (calm-or-not e)
+
+    -- and then the bytes are written.
+    pub written : {totals : Totals} {after : List ℕ} → found .calm ≡ true → totals .steps ≡ totalCost table → totals .written ≡ length (constraints table) → totals .all ≡ found .all
+        → after ≡ take (totals .written) (found .bytes) ++ drop (totals .written) lent → outcomeOf (Done totals) after ≡ outcomeAfter table α ρ lent
+    unfolding outcomeAfter outcome answerOf
+    written {totals} {after} c s w a e =
+        let calm : allCalm table ρ α (constraints table) ≡ true = calm-or-not c in
+        let bytes : take (totals .written) (found .bytes) ≡ verdicts table ρ α = rw (w, walked) (verdictsOf-bytes table ρ α calm) in
+        let count : totals .written ≡ length (verdicts table ρ α) = w ∙ sym (length-verdicts table ρ α) in
+        let all : found .all ≡ allOne table ρ α (verdicts table ρ α) = ap (λ (r : Verdicts). r .all) walked ∙ verdictsOf-all table ρ α calm in
+        rw (calm, e, bytes, s, count, a, all)

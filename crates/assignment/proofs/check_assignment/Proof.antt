@@ -1,13 +1,11 @@
 -- `assignment::check_assignment` meets its contract.
 -- Assumes nothing.
-use mathlib.Core.Path.{_≡_}
 use Prim.Native.Nat.{_-_, _≤_}
 use native.Mathlib.Omega.{arith}
 use mir.Facts.{toZ-ofZ}
 use borrow.Author.Needs.{needs}
 use borrow.Author.Tests.{not-true, not-false}
 use Rattle.answers.specs.Sections.{variablesAt, variableCount}
-use Rattle.table.specs.Records.{recordCount}
 use Rattle.layout.proofs.Order.{laid}
 use Rattle.assignment.proofs.Domains.{Inside, wrong-length, inside-none, inside-more, outside-at, inside-all}
 use Rattle.assignment.proofs.check_assignment.Statement.{statement}

@@ -1,6 +1,6 @@
 -- `constraints::constraint_values` meets its contract.
 -- Assumes nothing.
-use mathlib.Core.Path.{refl, ap}
+use mathlib.Core.Path.{ap}
 use Prim.Native.Nat.{_+_, _-_, _≤_}
 use native.Mathlib.Omega.{arith}
 use borrow.Author.Tests.{not-true, not-false}
@@ -32,7 +32,7 @@ constraint-value-requires c κs = let e = c .before .before .before .before in l
 
 returns : tie.Need-returns Inv-loop μ-loop
 unfolding constraintCount
-returns c = let e = c .before .before .before .before .before .before .before in let l = laid (e .args .s .now) (checked _ (e .pre .0 .sound)) (e .pre .1) in walked-beyond _ _ _ (c .before .before .before .before .loop .inv .0 .sized) (omega (arith, l)) (ap (λ k. k + c .before .before .before .before .loop .i) (l .constraints)) (c .before .before .constraint-value .ensures) (not-true _ (c .if1 .taken)) refl
+returns c = let e = c .before .before .before .before .before .before .before in let l = laid (e .args .s .now) (checked _ (e .pre .0 .sound)) (e .pre .1) in walked-beyond _ _ _ (omega (arith, l)) (ap (λ k. k + c .before .before .before .before .loop .i) (l .constraints)) (c .before .before .constraint-value .ensures) (not-true _ (c .if1 .taken))
 
 verdict-byte-requires : tie.Need-verdict-byte-requires Inv-loop μ-loop
 verdict-byte-requires c κs = tt
@@ -51,7 +51,7 @@ loop-again c = let e = c .before .before .before .before .before .before .before
 
 returns-2 : tie.Need-returns-2 Inv-loop μ-loop
 unfolding constraintCount
-returns-2 c = let e = c .before .before .before .before in let l = laid (e .args .s .now) (checked _ (e .pre .0 .sound)) (e .pre .1) in walked-all _ _ _ (c .before .loop .inv .0) (omega (arith, l)) refl refl
+returns-2 c = let e = c .before .before .before .before in let l = laid (e .args .s .now) (checked _ (e .pre .0 .sound)) (e .pre .1) in walked-all _ _ _ (c .before .loop .inv .0) (omega (arith, l))
 
 pub constraint-values-spec : {M : Type 1} → statement M
 constraint-values-spec =

@@ -8,7 +8,7 @@ use Rattle.answers.specs.Sections.{constraintCount}
 use Rattle.answers.proofs.Declared.{length-constraints}
 use Rattle.layout.proofs.Checked.{checked}
 use Rattle.layout.proofs.Order.{laid}
-use Rattle.evaluation.proofs.Outcomes.{refused-limit, written}
+use Rattle.evaluation.proofs.Outcomes.{long-enough, refused-limit, written}
 use Rattle.evaluation.proofs.evaluate_admitted.Statement.{statement}
 use Rattle.evaluation.proofs.evaluate_admitted.Tie as tie
 
@@ -22,14 +22,14 @@ constraint-values-requires : tie.Need-constraint-values-requires
 constraint-values-requires c κs = let e = c .before .before .before .before .before .before .before in (record { sound = e .pre .0; copied = c .before .before .before .fill .ensures; placed = c .before .before .lay-out .ensures }, e .pre .1 .0)
 
 returns : tie.Need-returns
-returns c = refused-limit _ _ _ _ (c .before .before .constraint-values .ensures) (not-true _ (c .if1 .taken))
+returns c = refused-limit _ _ _ (c .before .before .constraint-values .ensures) _ (not-true _ (c .if1 .taken))
 
 sub-count : tie.Need-sub-count
 sub-count c = let e = c .before .before .before .before .before .before .before .before .before .before .before .before in let l = laid (e .args .table .now) (checked _ (e .pre .0)) (e .pre .1 .0) in let n = length-constraints (e .args .table .now) in omega (arith, l, l .order)
 
 write-requires : tie.Need-write-requires
 unfolding constraintCount
-write-requires c κs = let e = c .before .before .before .before .before .before .before .before .before .before .before .before .before .before in let l = laid (e .args .table .now) (checked _ (e .pre .0)) (e .pre .1 .0) in let n = length-constraints (e .args .table .now) in (c .before .before .before .before .before .before .constraint-values .ensures .long, (omega (arith, l, l .order), omega (arith, l, n, e .pre .1 .1 .1)))
+write-requires c κs = let e = c .before .before .before .before .before .before .before .before .before .before .before .before .before .before in let l = laid (e .args .table .now) (checked _ (e .pre .0)) (e .pre .1 .0) in let n = length-constraints (e .args .table .now) in (long-enough _ _ _ (c .before .before .before .before .before .before .constraint-values .ensures) (e .pre .0), (omega (arith, l, l .order), omega (arith, l, n, e .pre .1 .1 .1)))
 
 cast-t21 : tie.Need-cast-t21
 cast-t21 c = let e = c .before .before .before .before .before .before .before .before .before .before .before .before .before .before .before .before .before in let l = laid (e .args .table .now) (checked _ (e .pre .0)) (e .pre .1 .0) in let n = length-constraints (e .args .table .now) in omega (arith, l, l .order)
@@ -39,7 +39,7 @@ same-length c = search needs
 
 returns-2 : tie.Need-returns-2
 unfolding constraintCount
-returns-2 c = let e = c .before .before .before .before .before .before .before .before .before .before .before .before .before .before .before .before .before in let l = laid (e .args .table .now) (checked _ (e .pre .0)) (e .pre .1 .0) in let n = length-constraints (e .args .table .now) in written _ _ _ _ (c .before .before .before .before .before .before .before .before .before .constraint-values .ensures) (not-false _ (c .before .before .before .before .before .before .before .if1 .left)) (e .pre .1 .1 .0) (omega (arith, l, n)) refl (c .before .before .write .ensures)
+returns-2 c = let e = c .before .before .before .before .before .before .before .before .before .before .before .before .before .before .before .before .before in let l = laid (e .args .table .now) (checked _ (e .pre .0)) (e .pre .1 .0) in let n = length-constraints (e .args .table .now) in written _ _ _ (c .before .before .before .before .before .before .before .before .before .constraint-values .ensures) _ (not-false _ (c .before .before .before .before .before .before .before .if1 .left)) (e .pre .1 .1 .0) (omega (arith, l, n)) refl (c .before .before .write .ensures)
 
 pub evaluate-admitted-spec : {M : Type 1} → statement M
 evaluate-admitted-spec =
