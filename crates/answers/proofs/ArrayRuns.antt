@@ -14,7 +14,7 @@ use Rattle.numbers.proofs.Tests.{T→≡true, Tnot→≡false}
 use Rattle.table.specs.Records.{AR, marked, kindAt, yAt}
 use Rattle.answers.specs.Sections.{sortOfKind, behindArray, arraysFrom, arraysEnd}
 use Rattle.answers.specs.Check.{firstFault, arrayFault, elementFault, arraysFault}
-use Rattle.answers.proofs.Faults.{orElse-none, none-orElse, firstFault-none, none-firstFault}
+use Rattle.answers.proofs.Faults.{neither, none-orElse, firstFault-none, none-firstFault}
 
 module _ (bs : List ℕ) where
   -- The array number j, whose AR is record p, and its elements have no fault.
@@ -41,7 +41,7 @@ module _ (bs : List ℕ) where
   ArrayPassed→none : (more j p : ℕ) → ArrayPassed j p → arraysFault bs more (suc j) (behindArray bs p) ≡ none → arraysFault bs (suc more) j p ≡ none
   ArrayPassed→none more j p a rest =
       rw (arraysFault-marked more j p (a .mark))
-      (orElse-none (firstFault-none _ p 1 (λ i l. a .own)) (orElse-none (firstFault-none _ (suc p) (natAbs (yAt bs p)) (a .elements)) rest))
+      (neither (firstFault-none _ p 1 (λ i l. a .own)) (neither (firstFault-none _ (suc p) (natAbs (yAt bs p)) (a .elements)) rest))
 
   -- and only there.
   none→ArrayPassed : (more j p : ℕ) → T (marked bs AR p) → arraysFault bs (suc more) j p ≡ none

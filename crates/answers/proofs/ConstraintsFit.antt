@@ -20,7 +20,7 @@ use Rattle.table.specs.Records.{kindAt, auxAt, xAt, yAt}
 use Rattle.table.specs.Kinds.{nodeNumber}
 use Rattle.answers.specs.Sections.{slotCount, nodeCount, rows, nodeTrees}
 use Rattle.answers.specs.Check.{isZero, names, sameSort, nodeSort, fieldAllowed, fieldNames, fieldTyped, closedIn, constraintFault}
-use Rattle.answers.proofs.Faults.{orElse-none, none-orElse, unless-none, none-unless}
+use Rattle.answers.proofs.Faults.{neither, none-orElse, unless-none, none-unless}
 use Rattle.answers.proofs.Fields.{passed→FieldFits, FieldFits→passed}
 
 -- "a constraint has no free slot": none of the declared slots is free in node k
@@ -83,8 +83,8 @@ module _ (bs : List ℕ) where
     ConstraintPassed→none h =
         let x : ℤ = xAt bs p in
         let fits = FieldFits→passed bs (nodeCount bs) (nodeNumber boolean) x (h .nonneg, h .node) in
-        orElse-none
+        neither
         (unless-none 3 (eqb (kindAt bs p) 0 && eqb (auxAt bs p) 0 && isZero (yAt bs p)) (rw (h .kind-is, h .aux-is, h .y-is) (eqZ-refl (pos 0))))
-        (orElse-none (unless-none 4 (names (nodeCount bs) x) (fits .1))
-        (orElse-none (unless-none 5 (sameSort (nodeSort bs x) boolean) (fits .2))
+        (neither (unless-none 4 (names (nodeCount bs) x) (fits .1))
+        (neither (unless-none 5 (sameSort (nodeSort bs x) boolean) (fits .2))
         (unless-none 6 (closedIn bs (natAbs x) (slotCount bs)) (free→closedIn (natAbs x) (slotCount bs) (h .closed)))))

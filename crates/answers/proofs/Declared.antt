@@ -1,22 +1,16 @@
 -- What a table declares, by number: the variable, slot, array or row of each number is the one of its record, and there are as many as there
 -- are records.
 -- Assumes nothing.
-use mathlib.Core.Path.{_≡_, refl}
-use Prim.Native.Nat.{ℕ, zero, suc, _+_, _<_}
-use native.Mathlib.Nat.{not-suc-le-zero, le-of-suc-le-suc}
-use mathlib.Core.List.{List, [], _∷_, map}
-use lib.ListN.{length, getD, length-map}
+use mathlib.Core.Path.{_≡_}
+use Prim.Native.Nat.{ℕ, _+_, _≤_, _<_}
+use mathlib.Core.List.{List, map}
+use lib.ListN.{length, getD, length-map, List·getD-eq-default}
+use Rattle.numbers.proofs.Lists.{getD-map}
 use Rattle.language.specs.Tables.{Row}
-use Rattle.language.specs.Meaning.{slotAt, arrayAt}
-use Rattle.rules.specs.Bounds.{variableAt}
+use Rattle.language.specs.Meaning.{slotAt, noSlot, arrayAt, noArray}
+use Rattle.rules.specs.Bounds.{variableAt, noVariable}
 use Rattle.answers.specs.Sections.{variablesAt, slotsAt, nodesAt, variableCount, slotCount, arrayRecords, nodeCount, constraintCount, variableOf, slotOf, arrayOf, rowOf, declarations, rows, constraints}
-use Rattle.answers.proofs.Listed.{length-listed, getD-listed}
-
--- The element at a place of a list, under a function.
-pub getD-map : {A B : Type 0} (f : A → B) (l : List A) (d : A) (e : B) (k : ℕ) → k < length l → getD (map f l) k e ≡ f (getD l k d)
-getD-map f [] d e k h = absurd (not-suc-le-zero h)
-getD-map f (x ∷ l) d e zero h = refl
-getD-map f (x ∷ l) d e (suc k) h = getD-map f l d e k (le-of-suc-le-suc h)
+use Rattle.answers.proofs.Listed.{length-listed, getD-listed, getD-listed-past}
 
 module _ (bs : List ℕ) where
   -- ---- how many
@@ -61,9 +55,26 @@ module _ (bs : List ℕ) where
   -- the array,
   pub arrayAt-declarations : (A : ℕ) → A < length (arrayRecords bs) → arrayAt (declarations bs) A ≡ arrayOf bs (getD (arrayRecords bs) A 0)
   unfolding declarations arrayAt
-  arrayAt-declarations A h = getD-map (arrayOf bs) (arrayRecords bs) 0 _ A h
+  arrayAt-declarations A h = getD-map (arrayOf bs) (arrayRecords bs) A 0 _ h
 
   -- and the row of a number.
   pub getD-rows : (k : ℕ) (d : Row) → k < nodeCount bs → getD (rows bs) k d ≡ rowOf bs (nodesAt bs + k)
   unfolding rows
   getD-rows k d h = getD-listed (nodeCount bs) _ d k h
+
+  -- ---- and past the last
+
+  -- No variable,
+  pub variableAt-past : (v : ℕ) → variableCount bs ≤ v → variableAt (declarations bs) v ≡ noVariable
+  unfolding declarations variableAt
+  variableAt-past v h = getD-listed-past (variableCount bs) _ _ v h
+
+  -- no slot
+  pub slotAt-past : (s : ℕ) → slotCount bs ≤ s → slotAt (declarations bs) s ≡ noSlot
+  unfolding declarations slotAt
+  slotAt-past s h = getD-listed-past (slotCount bs) _ _ s h
+
+  -- and no array is declared there.
+  pub arrayAt-past : (A : ℕ) → length (arrayRecords bs) ≤ A → arrayAt (declarations bs) A ≡ noArray
+  unfolding declarations arrayAt
+  arrayAt-past A h = List·getD-eq-default (map (arrayOf bs) (arrayRecords bs)) noArray {n = A} (rw length-map h)

@@ -33,7 +33,8 @@ use Rattle.answers.specs.Check.{checkFault}
 use Rattle.answers.specs.Answers.{unset, assignmentFault, valueOfConstraint, allCalm, boundsFault, roomFault, translated, translation}
 use Rattle.answers.proofs.Faults.{none-unless, none-cond-fault, none-firstFault}
 use Rattle.answers.proofs.Listed.{All-at, All-mapped}
-use Rattle.answers.proofs.Declared.{length-slots, getD-map}
+use Rattle.answers.proofs.Declared.{length-slots}
+use Rattle.numbers.proofs.Lists.{getD-map}
 use Rattle.answers.proofs.NewConstraints.{constraint-node, constraint-free, P-free}
 use Rattle.answers.proofs.NewPassed.{checkFault-new}
 use Rattle.answers.proofs.NewTable.{declarations-new, rows-new, constraints-new}
@@ -147,7 +148,7 @@ module _ (bs : List ℕ) (ρ : Reading) where
           calm = T→≡true _ (allCalm-All new ρ′ α (constraints new) (rw (declarations-new bs ρ h, rows-new bs ρ h, constraints-new bs ρ h) calm-each));
           as-many = ap length (constraints-new bs ρ h) ∙ length-map (constraints bs) first;
           told = λ i l.
-              rw (declarations-new bs ρ h, rows-new bs ρ h, constraints-new bs ρ h, getD-map first (constraints bs) 0 0 i l)
+              rw (declarations-new bs ρ h, rows-new bs ρ h, constraints-new bs ρ h, getD-map first (constraints bs) i 0 0 l)
               (P-told i l ρ′ α fits);
         }
 

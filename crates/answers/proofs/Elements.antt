@@ -13,7 +13,7 @@ use Rattle.table.specs.Records.{EL, marked, kindAt, auxAt, xAt, yAt}
 use Rattle.table.specs.Kinds.{variableNumber}
 use Rattle.answers.specs.Sections.{variableCount, declarations, elementOf}
 use Rattle.answers.specs.Check.{names, isKind, isZero, sameSort, variableSort, constantAllowed, elementFault, fieldAllowed, fieldNames, fieldTyped}
-use Rattle.answers.proofs.Faults.{orElse-none, none-orElse, unless-none, none-unless}
+use Rattle.answers.proofs.Faults.{neither, none-orElse, unless-none, none-unless}
 use Rattle.answers.proofs.Fields.{passed→FieldFits}
 
 -- Of two tests one passes: if not the first, the second.
@@ -47,8 +47,8 @@ module _ (bs : List ℕ) (t : Sort) (p : ℕ) where
   pub ElementPassed→none : ElementPassed bs t p → elementFault bs t p ≡ none
   unfolding elementFault
   ElementPassed→none h =
-      orElse-none (unless-none 2 _ (h .mark))
-      (orElse-none (unless-none 3 _ (h .allowed)) (orElse-none (unless-none 4 _ (h .named)) (unless-none 5 _ (h .typed))))
+      neither (unless-none 2 _ (h .mark))
+      (neither (unless-none 3 _ (h .allowed)) (neither (unless-none 4 _ (h .named)) (unless-none 5 _ (h .typed))))
 
   -- A variable that is an element is declared, with the array's type.
   pub ElementPassed→ElementFits : ElementPassed bs t p → ElementFits (declarations bs) t (elementOf bs p)

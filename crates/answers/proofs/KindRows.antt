@@ -1,17 +1,18 @@
 -- The row of each kind by its fields: what it yields, which nodes it names, and which slots are free in its tree.
 -- Assumes nothing.
-use mathlib.Core.Path.{_≡_, refl, subst}
+use mathlib.Core.Path.{_≡_, refl}
 use mathlib.Core.Bool.{Bool, true, false, not, _&&_, _||_}
-use mathlib.Core.List.{List, [], _∷_}
-use mathlib.Core.Option.{Option, none, some, Option·some-injective, Option·none-ne-some}
-use Prim.Native.Nat.{ℕ, zero, suc, _<_}
+use mathlib.Core.List.{List}
+use mathlib.Core.Option.{Option, none, some}
+use Prim.Native.Nat.{ℕ, _<_}
 use lib.Dec.{eqb}
 use lib.IntN.{ℤ, natAbs}
-use lib.ListN.{getD}
 use Rattle.language.specs.Syntax.{Sort, boolean, integer, Arithmetic, plus, minus, times, least, most, Division, quot, rem, Connective, conj, disj, implies, iff, Comparison, equal, unequal, atMost, below, Quantifier, exists, forall}
 use Rattle.language.specs.Meaning.{isOne}
-use Rattle.language.specs.Tables.{Row, constantRow, variableRow, slotRow, arithRow, divideRow, negateRow, boolToIntRow, lookupRow, sumRow, truthRow, variableBRow, lookupBRow, connectRow, negationRow, compareRow, quantifyRow, Tree, whole, bool, treeAt, treeI, treeB, asI, asB, fill, freeI, freeB, freeIn}
+use Rattle.language.specs.Tables.{constantRow, variableRow, slotRow, arithRow, divideRow, negateRow, boolToIntRow, lookupRow, sumRow, truthRow, variableBRow, lookupBRow, connectRow, negationRow, compareRow, quantifyRow, Tree, whole, bool, treeI, treeB, fill, freeI, freeB, freeIn}
 use Rattle.language.proofs.Trees.{NamesBelow}
+use Rattle.rules.specs.Soundness.{All}
+use Rattle.rules.proofs.Every.{All-getD, _⸴_}
 use Rattle.table.specs.Kinds.{Field, unused, anyNumber, truthValue, variableNumber, slotNumber, arrayNumber, nodeNumber, Kind, kinds, kindOf}
 
 -- what a tree yields
@@ -150,107 +151,48 @@ quantify-kind q = record { sort = λ ts x y. refl; below = λ n x y a b. b; free
 
 -- ---- every kind
 
-abbrev Every : List (Option Kind) → Type 0
-Every [] = Unit {0}
-Every (none ∷ ks) = Every ks
-Every (some k ∷ ks) = ByFields k × Every ks
+-- an entry of the table
+abbrev EntryByFields : Option Kind → Type 0
+EntryByFields none = Unit {0}
+EntryByFields (some k) = ByFields k
 
-every-kind : Every kinds
+every-kind : All EntryByFields kinds
 unfolding kinds
-every-kind = (
-  constant-kind,
-  (
-    truth-kind,
-    (
-      variable-kind,
-      (
-        variableB-kind,
-        (
-          slot-kind,
-          (
-            arith-kind plus,
-            (
-              arith-kind minus,
-              (
-                arith-kind times,
-                (
-                  divide-kind quot,
-                  (
-                    divide-kind rem,
-                    (
-                      negate-kind,
-                      (
-                        arith-kind least,
-                        (
-                          arith-kind most,
-                          (
-                            boolToInt-kind,
-                            (
-                              lookup-kind,
-                              (
-                                lookupB-kind,
-                                (
-                                  sum-kind,
-                                  (
-                                    connect-kind conj,
-                                    (
-                                      connect-kind disj,
-                                      (
-                                        connect-kind implies,
-                                        (
-                                          connect-kind iff,
-                                          (
-                                            negation-kind,
-                                            (
-                                              compare-kind
-                                                  equal,
-                                              (
-                                                compare-kind unequal,
-                                                (
-                                                  compare-kind atMost,
-                                                  (
-                                                    compare-kind below,
-                                                    (
-                                                      quantify-kind exists,
-                                                      (
-                                                        quantify-kind forall,
-                                                        tt,
-                                                      ),
-                                                    ),
-                                                  ),
-                                                ),
-                                              ),
-                                            ),
-                                          ),
-                                        ),
-                                      ),
-                                    ),
-                                  ),
-                                ),
-                              ),
-                            ),
-                          ),
-                        ),
-                      ),
-                    ),
-                  ),
-                ),
-              ),
-            ),
-          ),
-        ),
-      ),
-    ),
-  ),
-)
+every-kind =
+    tt  -- 0
+    ⸴ constant-kind  -- 1
+    ⸴ truth-kind  -- 2
+    ⸴ variable-kind  -- 3
+    ⸴ variableB-kind  -- 4
+    ⸴ slot-kind  -- 5
+    ⸴ arith-kind plus  -- 6
+    ⸴ arith-kind minus  -- 7
+    ⸴ arith-kind times  -- 8
+    ⸴ divide-kind quot  -- 9
+    ⸴ divide-kind rem  -- 10
+    ⸴ negate-kind  -- 11
+    ⸴ arith-kind least  -- 12
+    ⸴ arith-kind most  -- 13
+    ⸴ boolToInt-kind  -- 14
+    ⸴ lookup-kind  -- 15
+    ⸴ lookupB-kind  -- 16
+    ⸴ sum-kind  -- 17
+    ⸴ tt  -- 18
+    ⸴ tt  -- 19
+    ⸴ connect-kind conj  -- 20
+    ⸴ connect-kind disj  -- 21
+    ⸴ connect-kind implies  -- 22
+    ⸴ connect-kind iff  -- 23
+    ⸴ negation-kind  -- 24
+    ⸴ compare-kind equal  -- 25
+    ⸴ compare-kind unequal  -- 26
+    ⸴ compare-kind atMost  -- 27
+    ⸴ compare-kind below  -- 28
+    ⸴ quantify-kind exists  -- 29
+    ⸴ quantify-kind forall  -- 30
+    ⸴ tt
 
-at : (ks : List (Option Kind)) → Every ks → (n : ℕ) (k : Kind) → getD ks n none ≡ some k → ByFields k
-at [] e n k q = absurd (Option·none-ne-some k q)
-at (none ∷ ks) e zero k q = absurd (Option·none-ne-some k q)
-at (none ∷ ks) e (suc n) k q = at ks e n k q
-at (some j ∷ ks) e zero k q = subst ByFields (Option·some-injective j k q) (e .0)
-at (some j ∷ ks) e (suc n) k q = at ks (e .1) n k q
-
+-- So it is with a kind that exists.
 pub by-fields : (n : ℕ) {k : Kind} → kindOf n ≡ some k → ByFields k
 unfolding kindOf
-by-fields n {k} q = at kinds every-kind n k q
+by-fields n e = rw e at (All-getD EntryByFields kinds none every-kind tt n)

@@ -10,7 +10,7 @@ use lib.Signed.{nonNeg}
 use Rattle.language.specs.Syntax.{Declarations}
 use Rattle.language.specs.Tables.{Row}
 use Rattle.rules.specs.Soundness.{All, IsVariable, IsSlot, IsArray, IsNode, RowFits, sortOf}
-use Rattle.rules.proofs.Every.{All-getD}
+use Rattle.rules.proofs.Every.{All-getD, _⸴_}
 use Rattle.table.specs.Kinds.{Field, unused, anyNumber, truthValue, variableNumber, slotNumber, arrayNumber, nodeNumber, Kind, kinds, kindOf}
 use Rattle.answers.specs.Check.{isBit}
 
@@ -37,10 +37,6 @@ pub record KindFits (k : Kind) : Type 0 where
 abbrev EntryFits : Option Kind → Type 0
 EntryFits none = Unit {0}
 EntryFits (some k) = KindFits k
-
-infixr 20 _⸴_
-_⸴_ : {A B : Type 0} → A → B → A × B
-a ⸴ b = (a, b)
 
 -- Every entry of the table of kinds is right.
 kinds-fit : All EntryFits kinds

@@ -7,7 +7,6 @@ pub mod Demand
 pub mod Elements
 pub mod Faults
 pub mod Fields
-pub mod FirstFault
 pub mod KindRows
 pub mod KindsFit
 pub mod Listed
@@ -21,6 +20,7 @@ pub mod NewWords
 pub mod NoFaults
 pub mod NodeTrees
 pub mod NodesFit
+pub mod Numbers
 pub mod Passed
 pub mod Refusals
 pub mod RowRecords

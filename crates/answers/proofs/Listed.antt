@@ -1,13 +1,13 @@
 -- Laws of `listed`: how long f 0, f 1, .., f (n − 1) is, which element stands where, what holds of each, and when two are the same.
 -- Assumes nothing.
 use mathlib.Core.Path.{_≡_, refl, sym, _∙_}
-use Prim.Native.Nat.{ℕ, zero, suc, _<_}
+use Prim.Native.Nat.{ℕ, zero, suc, _≤_, _<_}
 use native.Mathlib.Nat.{not-suc-le-zero, le-of-suc-le-suc}
 use native.Mathlib.Omega.{arith}
 use native.Mathlib.Decide.{decLt}
 use mathlib.Core.List.{List, [], _∷_, _++_, map}
-use lib.ListN.{length, getD, length-append, List·getD-append}
-use lib.Seq.{getD-at, ext-getD}
+use lib.ListN.{length, getD, take, length-append, List·getD-append, List·getD-eq-default}
+use lib.Seq.{getD-at, take-append-le, take-all, ext-getD}
 use Rattle.rules.specs.Soundness.{All}
 use Rattle.rules.proofs.Every.{All-snoc}
 use Rattle.answers.specs.Sections.{listed}
@@ -30,6 +30,22 @@ module _ {A : Type 0} where
       go before (no b) =
           let e : k ≡ n = omega arith in
           rw e (getD-at (listed n f) (f n) [] d n (length-listed n f))
+
+  -- Past the last there is nothing.
+  pub getD-listed-past : (n : ℕ) (f : ℕ → A) (d : A) (k : ℕ) → n ≤ k → getD (listed n f) k d ≡ d
+  getD-listed-past n f d k h = List·getD-eq-default (listed n f) d {n = k} (rw length-listed h)
+
+  -- The first k of them are listed by the same function.
+  pub take-listed : (k n : ℕ) (f : ℕ → A) → k ≤ n → take k (listed n f) ≡ listed k f
+  unfolding listed
+  take-listed k zero f h = let e : k ≡ 0 = omega arith in rw e
+  take-listed k (suc n) f h = go (λ b. take-listed k n f b) (decLt k (suc n))
+    where
+      go : (k ≤ n → take k (listed n f) ≡ listed k f) → Dec (k < suc n) → take k (listed n f ++ (f n ∷ [])) ≡ listed k f
+      go before (yes b) = take-append-le k (listed n f) (f n ∷ []) (omega (arith, length-listed n f)) ∙ before (omega arith)
+      go before (no b) =
+          let e : k ≡ suc n = omega arith in
+          rw e (take-all (suc n) (listed n f ++ (f n ∷ [])) (omega (arith, length-append (listed n f) (f n ∷ []), length-listed n f)))
 
   -- What holds of each f k holds of all.
   pub All-listed : (P : A → Type 0) (n : ℕ) (f : ℕ → A) → ((k : ℕ) → k < n → P (f k)) → All P (listed n f)

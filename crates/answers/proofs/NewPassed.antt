@@ -23,7 +23,7 @@ use Rattle.table.specs.Records.{HD, recordSize, firstLetter, secondLetter}
 use Rattle.answers.specs.Sections.{variablesAt, slotsAt, nodesAt, constraintsAt, variableCount, slotCount, nodeCount, constraintCount, declarations, rows, nodeTrees, constraints}
 use Rattle.answers.specs.Check.{isZero, headerFault, variableFault, slotFault, nodeFault, constraintFault, checkFault}
 use Rattle.answers.specs.Answers.{translated, newCount, translation}
-use Rattle.answers.proofs.Faults.{orElse-none, unless-none}
+use Rattle.answers.proofs.Faults.{neither, unless-none}
 use Rattle.answers.proofs.Listed.{listed-≡}
 use Rattle.answers.proofs.Fields.{rowsBelow}
 use Rattle.answers.proofs.NoFaults.{LengthAllowed, NoFaults→checkFault}
@@ -66,7 +66,7 @@ module _ (bs : List ℕ) (ρ : Reading) where
     unfolding headerFault isZero firstLetter secondLetter
     header-none =
         let r = header-is bs ρ h in
-        orElse-none (unless-none 2 _ (rw (r .marks HD) tt))
+        neither (unless-none 2 _ (rw (r .marks HD) tt))
         (unless-none 3 _
         (rw (r .kind-is, r .aux-is, r .x-is, r .y-is, recordCount-translation bs ρ (h .passed))
         (&&-intro (eqZ (pos (newCount bs ρ)) (pos (newCount bs ρ))) _ (eqZ-refl (pos (newCount bs ρ))) (eqZ-refl (pos 0)))))

@@ -14,7 +14,7 @@ use Rattle.table.proofs.Alike.{kindAt-alike, xAt-alike, yAt-alike}
 use Rattle.answers.specs.Sections.{listed, behindArray, variablesAt, slotsAt, arraysAt, nodesAt, constraintsAt, restAt, variableCount, slotCount, arrayRecords, nodeCount, constraintCount, variableOf, slotOf, elementOf, arrayOf, declarations, rows, constraints}
 use Rattle.answers.specs.Answers.{translated, newCount, translation}
 use Rattle.answers.proofs.Listed.{listed-≡, listed-agree}
-use Rattle.answers.proofs.Declared.{getD-map}
+use Rattle.numbers.proofs.Lists.{getD-map}
 use Rattle.answers.proofs.Runs.{Run}
 use Rattle.answers.proofs.ArrayRuns.{ArraysPassed, ArraysPassed-ordered}
 use Rattle.answers.proofs.RowRecords.{rowOf-RecordIs}
@@ -145,4 +145,4 @@ module _ (bs : List ℕ) (ρ : Reading) where
         (length-map (constraints bs) (λ k. getD (translated bs ρ .firsts) k 0) ∙ sym constraintCount-new)
         (λ i l.
         let b : i < length (constraints bs) = rw constraintCount-new at l in
-        rw (constraintsAt-new) (ap natAbs (constraint-is bs ρ h i b .x-is) ∙ sym (getD-map (λ k. getD (translated bs ρ .firsts) k 0) (constraints bs) 0 0 i b)))
+        rw (constraintsAt-new) (ap natAbs (constraint-is bs ρ h i b .x-is) ∙ sym (getD-map (λ k. getD (translated bs ρ .firsts) k 0) (constraints bs) i 0 0 b)))

@@ -14,7 +14,7 @@ use Rattle.numbers.proofs.Tests.{&&-intro, &&-fst, &&-snd, T→≡true, Tnot→
 use Rattle.table.specs.Records.{recordSize, recordCount}
 use Rattle.answers.specs.Sections.{variablesAt, slotsAt, arraysAt, nodesAt, constraintsAt, restAt, variableCount, slotCount, nodeCount, constraintCount}
 use Rattle.answers.specs.Check.{headerFault, variableFault, slotFault, arraysFault, nodeFault, constraintFault, restFault, lengthAllowed, lengthFault, checkFault}
-use Rattle.answers.proofs.Faults.{orElse-none, none-orElse, none-cond, none-cond-not, firstFault-none, none-firstFault}
+use Rattle.answers.proofs.Faults.{neither, none-orElse, none-cond, none-cond-not, firstFault-none, none-firstFault}
 
 -- a length that is allowed: neither too short nor too long, in whole records
 pub record LengthAllowed (bs : List ℕ) : Type 0 where
@@ -81,11 +81,11 @@ module _ (bs : List ℕ) where
   pub NoFaults→checkFault : NoFaults bs → checkFault bs ≡ none
   unfolding checkFault restFault
   NoFaults→checkFault h =
-      orElse-none (LengthAllowed→lengthFault (h .length-allowed))
-      (orElse-none (firstFault-none (λ i. headerFault bs 0) 0 1 (λ i l. h .header-none))
-      (orElse-none (firstFault-none _ (variablesAt bs) (variableCount bs) (h .variables-none))
-      (orElse-none (firstFault-none _ (slotsAt bs) (slotCount bs) (h .slots-none))
-      (orElse-none (h .arrays-none)
-      (orElse-none (firstFault-none _ (nodesAt bs) (nodeCount bs) (h .nodes-none))
-      (orElse-none (firstFault-none _ (constraintsAt bs) (constraintCount bs) (h .constraints-none))
+      neither (LengthAllowed→lengthFault (h .length-allowed))
+      (neither (firstFault-none (λ i. headerFault bs 0) 0 1 (λ i l. h .header-none))
+      (neither (firstFault-none _ (variablesAt bs) (variableCount bs) (h .variables-none))
+      (neither (firstFault-none _ (slotsAt bs) (slotCount bs) (h .slots-none))
+      (neither (h .arrays-none)
+      (neither (firstFault-none _ (nodesAt bs) (nodeCount bs) (h .nodes-none))
+      (neither (firstFault-none _ (constraintsAt bs) (constraintCount bs) (h .constraints-none))
       (rw (Tnot→≡false (ltb (restAt bs) (recordCount bs)) (le→nltb (restAt bs) (recordCount bs) (h .no-rest))))))))))

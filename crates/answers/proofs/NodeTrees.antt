@@ -1,22 +1,22 @@
 -- The tree of each node record: what it yields, and which slots are free in it.
 -- Assumes nothing.
-use mathlib.Core.Path.{_≡_, refl, sym, ap, _∙_}
-use mathlib.Core.Bool.{Bool, false, not, _&&_, _||_}
+use mathlib.Core.Path.{_≡_, refl, ap, _∙_}
+use mathlib.Core.Bool.{false, not, _&&_, _||_}
 use mathlib.Core.List.{List}
 use mathlib.Core.Option.{Option, none, some}
 use Prim.Native.Nat.{ℕ, _+_, _<_}
 use lib.Dec.{eqb}
-use lib.IntN.{ℤ, pos, natAbs}
-use lib.ListN.{length, getD, take}
+use lib.IntN.{pos, natAbs}
+use lib.ListN.{getD, take}
 use Rattle.language.specs.Syntax.{boolean, integer}
-use Rattle.language.specs.Tables.{truthRow, Tree, whole, bool, treeAt, treeI, treeB, asI, asB, fill, trees, freeI, freeB, freeIn}
+use Rattle.language.specs.Tables.{truthRow, Tree, whole, bool, treeAt, asI, asB, fill, trees, freeI, freeB, freeIn}
 use Rattle.language.proofs.Trees.{treeAt-take, tree-at}
 use Rattle.table.specs.Records.{kindAt, xAt, yAt}
 use Rattle.table.specs.Kinds.{Kind, kindOf}
 use Rattle.answers.specs.Sections.{nodesAt, nodeCount, rowOf, rows, nodeTrees}
 use Rattle.answers.specs.Check.{nodeSort}
-use Rattle.answers.proofs.Listed.{length-listed, getD-listed}
-use Rattle.answers.proofs.KindRows.{treeSort, FieldBelow, fieldFree, binder, ByFields, by-fields}
+use Rattle.answers.proofs.Declared.{length-rows, getD-rows}
+use Rattle.answers.proofs.KindRows.{treeSort, FieldBelow, fieldFree, binder, by-fields}
 
 -- a tree of the type that is asked for is taken as it is
 pub free-integer : (t : Tree) (s : ℕ) → treeSort t ≡ integer → freeI s (asI t) ≡ freeIn s t
@@ -46,20 +46,12 @@ module _ (bs : List ℕ) where
   unfolding nodeSort
   sort-some n e = rw (e, nodeSort)
 
-  pub length-rows : length (rows bs) ≡ nodeCount bs
-  unfolding rows
-  length-rows = length-listed (nodeCount bs) _
-
   module _ (n : ℕ) (h : n < nodeCount bs) where
-    row-at : getD (rows bs) n (truthRow false) ≡ rowOf bs (nodesAt bs + n)
-    unfolding rows
-    row-at = getD-listed (nodeCount bs) _ _ n h
-
     -- a node yields what its kind says
     pub tree-sort : treeSort (treeAt (nodeTrees bs) n) ≡ nodeSort bs (pos n)
     unfolding nodeTrees fill
     tree-sort =
-        ap treeSort (treeAt-take (rows bs) n (truthRow false) (rw length-rows h) ∙ ap (fill (trees (take n (rows bs)))) row-at)
+        ap treeSort (treeAt-take (rows bs) n (truthRow false) (rw (length-rows bs) h) ∙ ap (fill (trees (take n (rows bs)))) (getD-rows bs n (truthRow false) h))
         ∙ go (kindOf (kindAt bs (nodesAt bs + n))) refl
       where
         go : (o : Option Kind) → kindOf (kindAt bs (nodesAt bs + n)) ≡ o
@@ -72,7 +64,7 @@ module _ (bs : List ℕ) where
     module _ {k : Kind} (e : kindOf (kindAt bs (nodesAt bs + n)) ≡ some k) (bx : FieldBelow n (k .fieldX) (xAt bs (nodesAt bs + n)))
         (by : FieldBelow n (k .fieldY) (yAt bs (nodesAt bs + n))) where
       this-row : getD (rows bs) n (truthRow false) ≡ k .row (xAt bs (nodesAt bs + n)) (yAt bs (nodesAt bs + n))
-      this-row = row-at ∙ row-some (nodesAt bs + n) e
+      this-row = getD-rows bs n (truthRow false) h ∙ row-some (nodesAt bs + n) e
 
       -- the free slots of a node, by its fields
       pub tree-free : (s : ℕ) → freeIn s (treeAt (nodeTrees bs) n)
@@ -81,6 +73,6 @@ module _ (bs : List ℕ) where
       unfolding nodeTrees
       tree-free s =
           ap (freeIn s)
-          (tree-at (rows bs) n (truthRow false) (rw length-rows h) (rw this-row (by-fields (kindAt bs (nodesAt bs + n)) e .below n _ _ bx by))
+          (tree-at (rows bs) n (truthRow false) (rw (length-rows bs) h) (rw this-row (by-fields (kindAt bs (nodesAt bs + n)) e .below n _ _ bx by))
           ∙ ap (fill (trees (rows bs))) this-row)
           ∙ by-fields (kindAt bs (nodesAt bs + n)) e .free (trees (rows bs)) (xAt bs (nodesAt bs + n)) (yAt bs (nodesAt bs + n)) s

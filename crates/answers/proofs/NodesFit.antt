@@ -16,7 +16,7 @@ use Rattle.table.specs.Records.{kindAt, auxAt, xAt, yAt}
 use Rattle.table.specs.Kinds.{Field, Kind, kindOf}
 use Rattle.answers.specs.Sections.{listed, declarations, rowOf}
 use Rattle.answers.specs.Check.{fieldAllowed, fieldNames, fieldTyped, kindFault, nodeFault}
-use Rattle.answers.proofs.Faults.{orElse-none, none-orElse, unless-none, none-unless}
+use Rattle.answers.proofs.Faults.{neither, none-orElse, unless-none, none-unless}
 use Rattle.answers.proofs.KindsFit.{FieldFits, kindOf-fits}
 use Rattle.answers.proofs.Fields.{rowsBelow, passed→FieldFits, FieldFits→passed}
 
@@ -65,10 +65,10 @@ module _ (bs : List ℕ) (n p : ℕ) where
       let x = FieldFits→passed bs n X (xAt bs p) (h .x-fits) in
       let y = FieldFits→passed bs n Y (yAt bs p) (h .y-fits) in
       rw (h .kind-is, nodeFault)
-      (orElse-none
+      (neither
       (unless-none 3 _
       (&&-intro (eqb (auxAt bs p) 0 && fieldAllowed bs X (xAt bs p)) _ (&&-intro (eqb (auxAt bs p) 0) _ (rw (h .aux-is) (eqb-refl 0)) (x .0)) (y .0)))
-      (orElse-none (unless-none 4 _ (&&-intro (fieldNames bs n X (xAt bs p)) _ (x .1) (y .1)))
+      (neither (unless-none 4 _ (&&-intro (fieldNames bs n X (xAt bs p)) _ (x .1) (y .1)))
       (unless-none 5 _ (&&-intro (fieldTyped bs X (xAt bs p)) _ (x .2) (y .2)))))
 
   -- The row of a node without a fault fits behind the rows before it.

@@ -4,14 +4,13 @@ use mathlib.Core.Path.{_≡_}
 use Prim.Native.Nat.{ℕ, _+_, _*_, _-_, _≤_, _<_}
 use native.Mathlib.Nat.{le-of-mul-le-mul-left, mul-one}
 use native.Mathlib.Omega.{arith}
-use native.Mathlib.Decide.{decLe, decLt}
+use native.Mathlib.Decide.{decLt}
 use mathlib.Core.List.{List}
 use mathlib.Core.Option.{none}
-use lib.Dec.{T, ltb→lt}
+use lib.Dec.{T}
 use lib.IntN.{natAbs}
 use lib.ListN.{length}
 use Rattle.numbers.specs.Limits.{mostBytes, mostVariables, mostSlots, mostArrays}
-use Rattle.numbers.proofs.Tests.{&&-fst}
 use Rattle.language.specs.Syntax.{boolean}
 use Rattle.rules.specs.Soundness.{All, IsNode, WellFormed}
 use Rattle.table.specs.Records.{Mark, VR, SL, AR, EL, ND, CN, recordSize, recordCount, marked, xAt}
@@ -19,7 +18,7 @@ use Rattle.table.proofs.Marks.{0<recordSize, length-records, marked→<recordCo
 use Rattle.answers.specs.Sections.{endOf, variablesAt, slotsAt, arraysAt, nodesAt, constraintsAt, restAt, variableCount, slotCount, arrayRecords, nodeCount, constraintCount, declarations, rows, constraints}
 use Rattle.answers.specs.Check.{headerFault, variableFault, slotFault, nodeFault, constraintFault, checkFault}
 use Rattle.answers.proofs.NoFaults.{LengthAllowed, NoFaults, checkFault→NoFaults}
-use Rattle.answers.proofs.Faults.{none-unless}
+use Rattle.answers.proofs.SoundSections.{below→≤, variable-below, slot-below}
 use Rattle.answers.proofs.Listed.{All-listed}
 use Rattle.answers.proofs.Runs.{Run, runEnd-Run}
 use Rattle.answers.proofs.ArrayRuns.{ArraysPassed, none→ArraysPassed, ArraysPassed-ordered}
@@ -58,21 +57,7 @@ pub record Passed (bs : List ℕ) : Type 0 where
 
 -- ---- small steps
 
--- If every number below n is below m, n is at most m.
-below→≤ : (n m : ℕ) → ((i : ℕ) → i < n → i < m) → n ≤ m
-below→≤ n m h = elim (decLe n m) [ yes b ↦ b | no b ↦ absurd (omega (arith, h m (omega arith))) ]
-
 module _ (bs : List ℕ) where
-  -- A variable's own test says that there are not too many before it,
-  variableFault→few : (i p : ℕ) → variableFault bs i p ≡ none → i < mostVariables
-  unfolding variableFault
-  variableFault→few i p h = let passed = none-unless 3 _ h in ltb→lt i mostVariables (search &&-fst)
-
-  -- and so does a slot's.
-  slotFault→few : (i p : ℕ) → slotFault bs i p ≡ none → i < mostSlots
-  unfolding slotFault
-  slotFault→few i p h = let passed = none-unless 3 _ h in ltb→lt i mostSlots (search &&-fst)
-
   -- A table that is not too long has not too many records.
   pub few-records : length bs ≤ mostBytes → recordCount bs ≤ 5_000
   unfolding recordCount recordSize
@@ -153,8 +138,8 @@ module _ (bs : List ℕ) where
         slots-passed = none-each .slots-none;
         nodes-passed = none-each .nodes-none;
         constraints-passed = none-each .constraints-none;
-        few-variables = below→≤ (variableCount bs) mostVariables (λ i l. variableFault→few i (variablesAt bs + i) (none-each .variables-none i l));
-        few-slots = below→≤ (slotCount bs) mostSlots (λ i l. slotFault→few i (slotsAt bs + i) (none-each .slots-none i l));
+        few-variables = below→≤ (variableCount bs) mostVariables (λ i l. variable-below bs i (variablesAt bs + i) (none-each .variables-none i l));
+        few-slots = below→≤ (slotCount bs) mostSlots (λ i l. slot-below bs i (slotsAt bs + i) (none-each .slots-none i l));
         few-arrays = omega (arith, ArraysPassed→few bs 0 (arraysAt bs) (arrayRecords bs) (nodesAt bs) (omega arith) arrays-run);
         few-nodes = omega (arith, few-records (lengths .few-bytes));
         well-formed = NoFaults→WellFormed none-each arrays-run;

@@ -1,60 +1,47 @@
 -- Where the sections begin: how the runs of one mark, and the arrays with their elements, go on and end.
 -- Assumes nothing.
-use mathlib.Core.Path.{_≡_, refl, sym, _∙_, ap}
-use mathlib.Core.Bool.{Bool, true, false, _&&_}
+use mathlib.Core.Path.{_≡_, refl}
+use mathlib.Core.Bool.{Bool, true, false}
 use mathlib.Core.Logic.{_⊎_, ⊎-elim}
 use mathlib.Core.List.{List, [], _∷_}
-use Prim.Native.Nat.{ℕ, zero, suc, _+_, _*_, _%_, _≤_, _<_}
-use native.Mathlib.Nat.{le-of-suc-le-suc, not-suc-le-zero, eq-or-lt-of-le, le-refl, lt-irrefl, lt-of-le-of-lt}
+use Prim.Native.Nat.{ℕ, zero, suc, _%_, _≤_, _<_}
+use native.Mathlib.Nat.{eq-or-lt-of-le, le-refl, lt-irrefl, lt-of-le-of-lt}
 use native.Mathlib.Omega.{arith}
-use borrow.Author.Tests.{ltb-true, ltb-false}
-use lib.Dec.{eqb, ltb}
-use lib.ListN.{length, getD, List·getD-eq-default}
-use Rattle.table.specs.Records.{Mark, HD, VR, SL, AR, EL, ND, CN, firstLetter, recordSize, byteAt, recordCount, marked}
-use Rattle.answers.specs.Sections.{runEnd, endOf, behindArray, arraysFrom, arraysEnd}
-
--- no letter is 0
-no-letter : (m : Mark) → eqb 0 (firstLetter m) ≡ false
-unfolding firstLetter
-no-letter HD = refl
-no-letter VR = refl
-no-letter SL = refl
-no-letter AR = refl
-no-letter EL = refl
-no-letter ND = refl
-no-letter CN = refl
+use lib.Dec.{not-T}
+use Rattle.numbers.proofs.Tests.{Tnot→≡false}
+use lib.ListN.{length}
+use Rattle.table.specs.Records.{Mark, AR, recordSize, recordCount, marked}
+use Rattle.table.proofs.Marks.{length-records, marked→<recordCount}
+use Rattle.answers.specs.Sections.{runEnd, behindArray, arraysFrom, arraysEnd}
 
 module _ (bs : List ℕ) where
   -- the table is made of whole records
   abbrev pub Whole : Type 0
   Whole = length bs % recordSize ≡ 0
 
-  -- past the end nothing has a mark
-  pub unmarked-beyond : Whole → (m : Mark) (p : ℕ) → recordCount bs ≤ p → marked bs m p ≡ false
-  unfolding marked byteAt recordCount recordSize
-  unmarked-beyond w m p h = rw (List·getD-eq-default bs 0 {n = 12 * p} (omega arith), no-letter m)
-
-  -- so what has one is within the table
+  -- What has a mark is within the table,
   pub marked-within : Whole → (m : Mark) (p : ℕ) → marked bs m p ≡ true → p < recordCount bs
-  marked-within w m p e = go (ltb p (recordCount bs)) (ltb-true p (recordCount bs)) (ltb-false p (recordCount bs))
-    where
-      go : (b : Bool) → (b ≡ true → p < recordCount bs) → (b ≡ false → recordCount bs ≤ p) → p < recordCount bs
-      go true h k = h refl
-      go false h k = let f : marked bs m p ≡ false = unmarked-beyond w m p (k refl) in let z : _≡_ {A = ℕ} 0 1 = cc in omega arith
+  marked-within w m p e = marked→<recordCount bs m p (length-records bs w) (rw e tt)
+
+  -- so past the end nothing has one.
+  pub unmarked-beyond : Whole → (m : Mark) (p : ℕ) → recordCount bs ≤ p → marked bs m p ≡ false
+  unmarked-beyond w m p h = Tnot→≡false (marked bs m p) (not-T (marked bs m p) (λ t. omega (arith, marked→<recordCount bs m p (length-records bs w) t)))
 
   -- ---- a run of one mark
 
   module _ (m : Mark) where
-    pub run-on : (k p : ℕ) → marked bs m p ≡ true → runEnd bs m (suc k) p ≡ runEnd bs m k (suc p)
+    -- It goes on behind a record with the mark,
+    pub run-on : (f k p : ℕ) → f ≡ suc k → marked bs m p ≡ true → runEnd bs m f p ≡ runEnd bs m k (suc p)
     unfolding runEnd
-    run-on k p e = rw (e, runEnd)
+    run-on f k p n e = rw (n, e, runEnd)
 
+    -- and stops at one without it.
     pub run-stop : (k p : ℕ) → marked bs m p ≡ false → runEnd bs m k p ≡ p
     unfolding runEnd
     run-stop zero p e = refl
     run-stop (suc k) p e = rw (e, runEnd)
 
-    -- it ends at its beginning or later, and all in it have the mark
+    -- It ends at its beginning or later,
     pub run-above : (k p : ℕ) → p ≤ runEnd bs m k p
     unfolding runEnd
     run-above zero p = le-refl p
@@ -64,6 +51,7 @@ module _ (bs : List ℕ) where
         go true h = omega arith
         go false h = le-refl p
 
+    -- and all in it have the mark.
     pub run-marked : (k p q : ℕ) → p ≤ q → q < runEnd bs m k p → marked bs m q ≡ true
     unfolding runEnd
     run-marked zero p q h l = absurd (lt-irrefl p (lt-of-le-of-lt h l))
@@ -76,22 +64,23 @@ module _ (bs : List ℕ) where
 
   -- ---- the arrays
 
-  module _ (k p : ℕ) (e : marked bs AR p ≡ true) where
-    pub arrays-on : arraysFrom bs (suc k) p ≡ p ∷ arraysFrom bs k (behindArray bs p)
+  -- They go on behind the elements of one,
+  module _ (f k p : ℕ) (n : f ≡ suc k) (e : marked bs AR p ≡ true) where
+    pub arrays-on : arraysFrom bs f p ≡ p ∷ arraysFrom bs k (behindArray bs p)
     unfolding arraysFrom
-    arrays-on = rw (e, arraysFrom)
+    arrays-on = rw (n, e, arraysFrom)
 
-    pub arrays-end-on : arraysEnd bs (suc k) p ≡ arraysEnd bs k (behindArray bs p)
+    pub arrays-end-on : arraysEnd bs f p ≡ arraysEnd bs k (behindArray bs p)
     unfolding arraysEnd
-    arrays-end-on = rw (e, arraysEnd)
+    arrays-end-on = rw (n, e, arraysEnd)
 
-  module _ (p : ℕ) (e : marked bs AR p ≡ false) where
-    pub arrays-stop : (k : ℕ) → arraysFrom bs k p ≡ []
-    unfolding arraysFrom
-    arrays-stop zero = refl
-    arrays-stop (suc k) = rw (e, arraysFrom)
+  -- and end at a record without the mark.
+  pub arrays-stop : (k p : ℕ) → marked bs AR p ≡ false → arraysFrom bs k p ≡ []
+  unfolding arraysFrom
+  arrays-stop zero p e = refl
+  arrays-stop (suc k) p e = rw (e, arraysFrom)
 
-    pub arrays-end-stop : (k : ℕ) → arraysEnd bs k p ≡ p
-    unfolding arraysEnd
-    arrays-end-stop zero = refl
-    arrays-end-stop (suc k) = rw (e, arraysEnd)
+  pub arrays-end-stop : (k p : ℕ) → marked bs AR p ≡ false → arraysEnd bs k p ≡ p
+  unfolding arraysEnd
+  arrays-end-stop zero p e = refl
+  arrays-end-stop (suc k) p e = rw (e, arraysEnd)

@@ -1,16 +1,15 @@
 -- The small tests of the check on the 32 bits of a field.
 -- Assumes nothing.
-use mathlib.Core.Path.{_≡_, refl, sym, _∙_, ap}
+use mathlib.Core.Path.{_≡_, refl, sym, _∙_}
 use mathlib.Core.Bool.{Bool, true, false, cond, _&&_, _||_}
 use Prim.Native.Nat.{ℕ, zero, suc, _+_, _-_, _≤_, _<_}
 use native.Mathlib.Omega.{arith}
-use borrow.Author.Tests.{ltb-true, ltb-false, leb-true, leb-false, lt-ltb, le-ltb, le-leb, lt-leb, eq-eqb, ne-eqb}
+use borrow.Author.Tests.{leb-true, leb-false, lt-ltb, le-ltb, le-leb, lt-leb, ne-eqb}
 use lib.Dec.{eqb, leb, ltb}
-use lib.IntN.{ℤ, pos, negsuc, natAbs, negℤ, _-ℤ_}
+use lib.IntN.{pos, negsuc, natAbs, _-ℤ_}
 use lib.Signed.{leZ}
 use Rattle.numbers.specs.Limits.{mostElements, mostSlotValues}
 use Rattle.numbers.specs.Whole.{eqZ, between}
-use Rattle.language.specs.Syntax.{Slot}
 use Rattle.language.specs.Meaning.{count}
 use Rattle.table.specs.Records.{signed}
 use Rattle.table.specs.Words.{lift}

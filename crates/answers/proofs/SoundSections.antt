@@ -2,65 +2,56 @@
 -- Assumes nothing.
 use mathlib.Core.Path.{_≡_, refl, sym, ap, _∙_}
 use mathlib.Core.Bool.{Bool, true, false, _&&_}
-use mathlib.Core.List.{List, [], _∷_}
-use mathlib.Core.Option.{Option, none, orElse}
+use mathlib.Core.List.{List, _∷_}
+use mathlib.Core.Option.{none, orElse}
 use Prim.Native.Nat.{ℕ, zero, suc, _+_, _≤_, _<_}
 use native.Mathlib.Nat.{not-suc-le-zero, le-of-suc-le-suc, add-zero}
 use native.Mathlib.Omega.{arith}
-use borrow.Author.Tests.{ltb-true, ltb-false, leb-true}
-use lib.Dec.{ltb}
+use native.Mathlib.Decide.{decLe}
+use lib.Dec.{ltb→lt, leb→le}
 use lib.IntN.{natAbs}
 use lib.ListN.{length, getD}
 use Rattle.numbers.specs.Limits.{mostVariables, mostSlots, mostArrays}
+use Rattle.numbers.proofs.Tests.{&&-fst, &&-snd}
 use Rattle.table.specs.Records.{AR, recordCount, marked, kindAt, yAt}
 use Rattle.answers.specs.Sections.{sortOfKind, arraysFrom, arraysAt, arrayRecords, behindArray, variablesAt, slotsAt, variableCount, slotCount}
 use Rattle.answers.specs.Check.{firstFault, isKind, variableFault, slotFault, arrayFault, elementFault, arraysFault}
-use Rattle.answers.proofs.FirstFault.{orElse-left, orElse-right, unless-holds, first-none}
+use Rattle.answers.proofs.Faults.{none-orElse, none-unless, none-firstFault}
 use Rattle.answers.proofs.RunEnds.{arrays-on, arrays-stop}
 
-and-left : (a b : Bool) → (a && b) ≡ true → a ≡ true
-and-left true b e = refl
-and-left false b e = e
-
-and-right : (a b : Bool) → (a && b) ≡ true → b ≡ true
-and-right true b e = e
-and-right false b e = cc
-
--- a number that all things keep below m: there are at most m of them
-count-below : (own : ℕ → Option ℕ) (p k m : ℕ) → firstFault own p k ≡ none → (own m ≡ none → m < m) → k ≤ m
-count-below own p k m e f = go (ltb m k) (ltb-true m k) (ltb-false m k)
-  where
-    go : (b : Bool) → (b ≡ true → m < k) → (b ≡ false → k ≤ m) → k ≤ m
-    go true h l = let c : m < m = f (first-none own p k e m (h refl)) in omega arith
-    go false h l = l refl
+-- If every number below n is below m, n is at most m.
+pub below→≤ : (n m : ℕ) → ((i : ℕ) → i < n → i < m) → n ≤ m
+below→≤ n m h = elim (decLe n m) [ yes b ↦ b | no b ↦ absurd (omega (arith, h m (omega arith))) ]
 
 module _ (bs : List ℕ) where
-  variable-below : (i p : ℕ) → variableFault bs i p ≡ none → i < mostVariables
+  -- A variable's own test says that there are not too many before it,
+  pub variable-below : (i p : ℕ) → variableFault bs i p ≡ none → i < mostVariables
   unfolding variableFault
-  variable-below i p e = ltb-true i mostVariables (and-left _ _ (and-left _ _ (and-left _ _ (unless-holds 3 _ e))))
+  variable-below i p e = let passed = none-unless 3 _ e in ltb→lt i mostVariables (search &&-fst)
 
   pub variable-kind : (i p : ℕ) → variableFault bs i p ≡ none → kindAt bs p ≤ 1
   unfolding variableFault isKind
-  variable-kind i p e = leb-true (kindAt bs p) 1 (and-right (ltb i mostVariables) (isKind (kindAt bs p)) (and-left _ _ (and-left _ _ (unless-holds 3 _ e))))
+  variable-kind i p e = let passed = none-unless 3 _ e in leb→le (kindAt bs p) 1 (search (&&-fst, &&-snd))
 
   pub few-variables : firstFault (λ i. variableFault bs i (variablesAt bs + i)) (variablesAt bs) (variableCount bs) ≡ none → variableCount bs ≤ mostVariables
-  few-variables e =
-      count-below (λ i. variableFault bs i (variablesAt bs + i)) (variablesAt bs) (variableCount bs) mostVariables e (variable-below mostVariables (variablesAt bs + mostVariables))
+  few-variables e = below→≤ (variableCount bs) mostVariables (λ i l. variable-below i _ (none-firstFault _ _ (variableCount bs) e i l))
 
-  slot-below : (i p : ℕ) → slotFault bs i p ≡ none → i < mostSlots
+  -- and so does a slot's,
+  pub slot-below : (i p : ℕ) → slotFault bs i p ≡ none → i < mostSlots
   unfolding slotFault
-  slot-below i p e = ltb-true i mostSlots (and-left _ _ (and-left _ _ (and-left _ _ (and-left _ _ (and-left _ _ (unless-holds 3 _ e))))))
+  slot-below i p e = let passed = none-unless 3 _ e in ltb→lt i mostSlots (search &&-fst)
 
   pub few-slots : firstFault (λ i. slotFault bs i (slotsAt bs + i)) (slotsAt bs) (slotCount bs) ≡ none → slotCount bs ≤ mostSlots
-  few-slots e = count-below (λ i. slotFault bs i (slotsAt bs + i)) (slotsAt bs) (slotCount bs) mostSlots e (slot-below mostSlots (slotsAt bs + mostSlots))
+  few-slots e = below→≤ (slotCount bs) mostSlots (λ i l. slot-below i _ (none-firstFault _ _ (slotCount bs) e i l))
 
+  -- and an array's.
   array-below : (j p : ℕ) → arrayFault bs j p ≡ none → j < mostArrays
   unfolding arrayFault
-  array-below j p e = ltb-true j mostArrays (and-left _ _ (and-left _ _ (and-left _ _ (and-left _ _ (unless-holds 3 _ e)))))
+  array-below j p e = let passed = none-unless 3 _ e in ltb→lt j mostArrays (search &&-fst)
 
   pub array-kind : (j p : ℕ) → arrayFault bs j p ≡ none → kindAt bs p ≤ 1
   unfolding arrayFault isKind
-  array-kind j p e = leb-true (kindAt bs p) 1 (and-right (ltb j mostArrays) (isKind (kindAt bs p)) (and-left _ _ (and-left _ _ (and-left _ _ (unless-holds 3 _ e)))))
+  array-kind j p e = let passed = none-unless 3 _ e in leb→le (kindAt bs p) 1 (search (&&-fst, &&-snd))
 
   -- how the faults of the arrays go on, and end
   pub arrays-fault-on : (k j p : ℕ) → marked bs AR p ≡ true
@@ -93,9 +84,9 @@ module _ (bs : List ℕ) where
           → (b : Bool) → marked bs AR p ≡ b → arrayFault bs (j + a) (getD (arraysFrom bs (suc k) p) a 0) ≡ none
       go rest true m =
           let f : _ = sym (arrays-fault-on k j p m) ∙ e in
-          rw (arrays-on bs k p m)
-          (first a (rw (arrays-on bs k p m) at h) (rest (orElse-right _ _ (orElse-right _ _ f))) (first-none (λ i. arrayFault bs j p) p 1 (orElse-left _ _ f) 0 (omega arith)))
-      go rest false m = absurd (not-suc-le-zero (rw (arrays-stop bs p m (suc k)) at h))
+          rw (arrays-on bs (suc k) k p refl m)
+          (first a (rw (arrays-on bs (suc k) k p refl m) at h) (rest (none-orElse _ _ (none-orElse _ _ f .1) .1)) (none-firstFault (λ i. arrayFault bs j p) p 1 (none-orElse _ _ f .0) 0 (omega arith)))
+      go rest false m = absurd (not-suc-le-zero (rw (arrays-stop bs (suc k) p m) at h))
 
   module _ (e : arraysFault bs (recordCount bs) 0 (arraysAt bs) ≡ none) where
     pub array-no-fault : (a : ℕ) → a < length (arrayRecords bs) → arrayFault bs a (getD (arrayRecords bs) a 0) ≡ none
@@ -104,8 +95,4 @@ module _ (bs : List ℕ) where
         ap (λ (i : ℕ). arrayFault bs i (getD (arrayRecords bs) a 0)) {y = 0 + a} (omega arith) ∙ array-sound (recordCount bs) 0 (arraysAt bs) e a h
 
     pub few-arrays : length (arrayRecords bs) ≤ mostArrays
-    few-arrays = go (ltb mostArrays (length (arrayRecords bs))) (ltb-true mostArrays (length (arrayRecords bs))) (ltb-false mostArrays (length (arrayRecords bs)))
-      where
-        go : (b : Bool) → (b ≡ true → mostArrays < length (arrayRecords bs)) → (b ≡ false → length (arrayRecords bs) ≤ mostArrays) → length (arrayRecords bs) ≤ mostArrays
-        go true h l = let c : mostArrays < mostArrays = array-below mostArrays _ (array-no-fault mostArrays (h refl)) in omega arith
-        go false h l = l refl
+    few-arrays = below→≤ (length (arrayRecords bs)) mostArrays (λ a l. array-below a _ (array-no-fault a l))

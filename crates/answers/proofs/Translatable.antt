@@ -21,8 +21,8 @@ use Rattle.rules.specs.Soundness.{Bounded}
 use Rattle.table.specs.Records.{recordSize, kindAt, xAt, yAt}
 use Rattle.answers.specs.Sections.{variablesAt, nodesAt, variableCount, declarations, rows, variableOf, nodeTrees}
 use Rattle.answers.specs.Check.{isZero, domainAllowed, variableFault, checkFault}
-use Rattle.answers.specs.Answers.{boundsFault, newCount, roomFault, translationFault}
-use Rattle.answers.proofs.Faults.{none-orElse, none-unless, none-cond, none-firstFault}
+use Rattle.answers.specs.Answers.{boundsFault, newCount, roomFault}
+use Rattle.answers.proofs.Faults.{none-unless, none-cond, none-firstFault}
 use Rattle.answers.proofs.Listed.{All-at}
 use Rattle.answers.proofs.Declared.{length-variables, variableAt-declarations}
 use Rattle.answers.proofs.Passed.{Passed, checkFault≡none→Passed, SectionsOrdered, Passed→SectionsOrdered}
@@ -50,19 +50,11 @@ module _ (bs : List ℕ) where
         let passed = none-cond (leb (recordSize * newCount bs ρ) room && leb (recordSize * newCount bs ρ) mostBytes) _ h in
         leb→le (recordSize * newCount bs ρ) mostBytes (search &&-snd)
 
-    -- A table with none of the three faults is translated,
+    -- A table with none of the three faults is translated.
     pub none→Translatable : (room : ℕ) → checkFault bs ≡ none → boundsFault bs ≡ none → roomFault bs ρ room ≡ none → Translatable bs ρ
     none→Translatable room c b r =
         let passed : Passed bs = checkFault≡none→Passed bs c in
         record { passed = passed; sections = Passed→SectionsOrdered bs passed; bounded = boundsFault→Bounded b; few-bytes = roomFault→few room r }
-
-    -- and so is one that `translate` does not refuse.
-    pub translationFault→Translatable : (room : ℕ) → translationFault bs ρ room ≡ none → Translatable bs ρ
-    unfolding translationFault
-    translationFault→Translatable room h =
-        let a = none-orElse _ _ h in
-        let b = none-orElse _ _ (a .1) in
-        none→Translatable room (a .0) (b .0) (b .1)
 
   -- ---- domains
 

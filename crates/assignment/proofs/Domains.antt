@@ -20,9 +20,8 @@ use Rattle.table.specs.Records.{xAt, yAt}
 use Rattle.answers.specs.Sections.{variablesAt, variableCount, variableOf, declarations}
 use Rattle.answers.specs.Check.{refuse, unless, firstFault}
 use Rattle.answers.specs.Answers.{assignmentFault}
-use Rattle.answers.proofs.Declared.{length-variables}
-use Rattle.layout.proofs.Numbered.{variable-at}
-use Rattle.layout.proofs.FirstFaults.{none-more, first-stays}
+use Rattle.answers.proofs.Declared.{length-variables, variableAt-declarations}
+use Rattle.answers.proofs.Faults.{first-more, first-at}
 
 -- ---- one value against the ends of its domain, as the code holds them
 
@@ -48,7 +47,7 @@ module _ (bs : List ℕ) (α : Assignment) where
   own-fault : (v : ℕ) {p : ℕ} {value : ℤ} {t : Bool} → v < variableCount bs → p ≡ variablesAt bs + v → value ≡ getD α v (pos 0)
       → t ≡ between (xAt bs p) (yAt bs p) value → ownFault v ≡ unless 10 t
   unfolding variableOf valueOf
-  own-fault v h e f q = rw (variable-at bs v h, q, e, f)
+  own-fault v h e f q = rw (variableAt-declarations bs v h, q, e, f)
 
   pub wrong-length : (length α ≡ variableCount bs → ⊥) → refuse 10 0 ≡ assignmentFault bs α
   unfolding assignmentFault
@@ -66,11 +65,11 @@ module _ (bs : List ℕ) (α : Assignment) where
       (q : t ≡ between (xAt bs p) (yAt bs p) value) where
     pub inside-more : t ≡ true → Inside (v + 1)
     unfolding unless
-    inside-more g = none-more ownFault (variablesAt bs) v before (own-fault v h e f q ∙ ap (unless 10) g)
+    inside-more g = first-more ownFault (variablesAt bs) v before (own-fault v h e f q ∙ ap (unless 10) g)
 
     pub outside-at : t ≡ false → length α ≡ variableCount bs → refuse 10 p ≡ assignmentFault bs α
     unfolding unless assignmentFault
-    outside-at g l = rw (length-variables, eq-eqb (length α) (variableCount bs) l, e) (sym (first-stays ownFault (variablesAt bs) v (variableCount bs) 10 before (own-fault v h e f q ∙ ap (unless 10) g) h))
+    outside-at g l = rw (length-variables, eq-eqb (length α) (variableCount bs) l, e) (sym (first-at ownFault (variablesAt bs) v before (own-fault v h e f q ∙ ap (unless 10) g) h))
 
   pub inside-all : (v : ℕ) → Inside v → v ≡ variableCount bs → length α ≡ variableCount bs → none ≡ assignmentFault bs α
   unfolding assignmentFault

@@ -1,4 +1,3 @@
 pub mod Declared
-pub mod Filled
 pub mod Nodes
 pub mod Spans

@@ -24,13 +24,13 @@ use Rattle.table.specs.Kinds.{kinds, kindOf}
 use Rattle.answers.specs.Sections.{listed, nodesAt, nodeCount, rowOf, rows, nodeTrees, declarations}
 use Rattle.answers.specs.Check.{refuse, unless, firstFault}
 use Rattle.answers.specs.Answers.{boundsFault}
-use Rattle.layout.proofs.FirstFaults.{none-more, first-stays}
+use Rattle.answers.proofs.Faults.{first-more, first-at}
 use Rattle.bounds.specs.Spans.{span, opposite, repeated, Small}
 use Rattle.bounds.specs.Kept.{keptAt, treesBefore, endsOf, nodeEnds, Kept}
 use Rattle.bounds.specs.declared.ends.Ends.{Ends}
-use Rattle.layout.proofs.Numbered.{length-listed, getD-listed, take-listed}
+use Rattle.answers.proofs.Listed.{length-listed, getD-listed, take-listed}
 use Rattle.bounds.proofs.Spans.{to-cong}
-use Rattle.bounds.proofs.Filled.{Filled, filled-none, filled-more}
+use Rattle.numbers.proofs.Lists.{Filled, filled-none, filled-more}
 
 -- ---- operands
 
@@ -144,16 +144,16 @@ module _ (bs : List ℕ) where
   tree-ends n k h =
       ap (λ t. interval (declarations bs) (asI t))
       (treeAt-take (listed n (λ i. rowOf bs (nodesAt bs + i))) k (truthRow false) (rw length-listed h)
-      ∙ rw (take-listed (λ i. rowOf bs (nodesAt bs + i)) k n (omega arith), getD-listed (λ i. rowOf bs (nodesAt bs + i)) n k (truthRow false) h))
+      ∙ rw (take-listed k n (λ i. rowOf bs (nodesAt bs + i)) (omega arith), getD-listed n (λ i. rowOf bs (nodesAt bs + i)) (truthRow false) k h))
 
   pub no-tree-ends : (n k : ℕ) → n ≤ k → interval (declarations bs) (treeI (treesBefore bs n) k) ≡ only (pos 0)
   unfolding treesBefore treeI treeAt asI interval
   no-tree-ends n k h =
       ap (λ t. interval (declarations bs) (asI t))
-      (List·getD-eq-default (trees (listed n (λ i. rowOf bs (nodesAt bs + i)))) (whole (constant (pos 0))) {n = k} (omega (arith, length-trees (listed n (λ i. rowOf bs (nodesAt bs + i))), length-listed (λ i. rowOf bs (nodesAt bs + i)) n)))
+      (List·getD-eq-default (trees (listed n (λ i. rowOf bs (nodesAt bs + i)))) (whole (constant (pos 0))) {n = k} (omega (arith, length-trees (listed n (λ i. rowOf bs (nodesAt bs + i))), length-listed n (λ i. rowOf bs (nodesAt bs + i)))))
 
   -- What is filled in node by node, all within the limit, is what is kept.
-  pub kept-of : {lows highs : List ℤ} {size n : ℕ} → Filled size (λ k. nodeEnds bs k .low) lows n → Filled size (λ k. nodeEnds bs k .high) highs n → ((k : ℕ) → k < n → T (withinLimit (nodeEnds bs k .low) && withinLimit (nodeEnds bs k .high))) → Kept (declarations bs) (treesBefore bs n) lows highs
+  pub kept-of : {lows highs : List ℤ} {size n : ℕ} → Filled (pos 0) size (λ k. nodeEnds bs k .low) lows n → Filled (pos 0) size (λ k. nodeEnds bs k .high) highs n → ((k : ℕ) → k < n → T (withinLimit (nodeEnds bs k .low) && withinLimit (nodeEnds bs k .high))) → Kept (declarations bs) (treesBefore bs n) lows highs
   unfolding only withinLimit
   kept-of {lows} {highs} {size} {n} l h w =
       record {
@@ -179,34 +179,34 @@ module _ (bs : List ℕ) where
   own-fault n h =
       ap (unless 8) (ap (withinBounds (declarations bs))
       (treeAt-take (listed (nodeCount bs) (λ i. rowOf bs (nodesAt bs + i))) n (truthRow false) (rw length-listed h)
-      ∙ rw (take-listed (λ i. rowOf bs (nodesAt bs + i)) n (nodeCount bs) (omega arith), getD-listed (λ i. rowOf bs (nodesAt bs + i)) (nodeCount bs) n (truthRow false) h))
+      ∙ rw (take-listed n (nodeCount bs) (λ i. rowOf bs (nodesAt bs + i)) (omega arith), getD-listed (nodeCount bs) (λ i. rowOf bs (nodesAt bs + i)) (truthRow false) n h))
       ∙ within-tree (fill (trees (listed n (λ i. rowOf bs (nodesAt bs + i)))) (rowOf bs (nodesAt bs + n))))
 
   -- The first n nodes: their ends are kept, and none is beyond the limit.
   pub record Passing (lows highs : List ℤ) (n : ℕ) : Type 0 where
-    pub low : Filled 5_000 (λ k. nodeEnds bs k .low) lows n
-    pub high : Filled 5_000 (λ k. nodeEnds bs k .high) highs n
+    pub low : Filled (pos 0) 5_000 (λ k. nodeEnds bs k .low) lows n
+    pub high : Filled (pos 0) 5_000 (λ k. nodeEnds bs k .high) highs n
     pub inside : (k : ℕ) → k < n → T (withinLimit (nodeEnds bs k .low) && withinLimit (nodeEnds bs k .high))
     pub no-fault : firstFault ownFault (nodesAt bs) n ≡ none
 
   pub passing-none : {lows highs : List ℤ} → lows ≡ replicate 5_000 (pos 0) → highs ≡ replicate 5_000 (pos 0) → Passing lows highs 0
   unfolding firstFault
-  passing-none e f = record { low = filled-none _ _ e; high = filled-none _ _ f; inside = λ k h. absurd (omega arith); no-fault = refl }
+  passing-none e f = record { low = filled-none _ _ _ e; high = filled-none _ _ _ f; inside = λ k h. absurd (omega arith); no-fault = refl }
 
   module _ {lows highs : List ℤ} {n : ℕ} (w : Passing lows highs n) (h : n < nodeCount bs) where
     pub passing-more : n < 5_000 → {low high : ℤ} → low ≡ nodeEnds bs n .low → high ≡ nodeEnds bs n .high → (withinLimit (nodeEnds bs n .low) && withinLimit (nodeEnds bs n .high)) ≡ true → Passing (set lows n low) (set highs n high) (n + 1)
     unfolding unless
     passing-more few e f t =
         record {
-          low = filled-more _ _ (w .low) few e;
-          high = filled-more _ _ (w .high) few f;
+          low = filled-more _ _ _ (w .low) few e;
+          high = filled-more _ _ _ (w .high) few f;
           inside = λ k l. ⊎-elim (λ m. w .inside k m) (λ m. let z : k ≡ n = omega arith in rw (z, t) tt) (lt-or-ge k n);
-          no-fault = none-more ownFault (nodesAt bs) n (w .no-fault) (own-fault n h ∙ ap (unless 8) t);
+          no-fault = first-more ownFault (nodesAt bs) n (w .no-fault) (own-fault n h ∙ ap (unless 8) t);
         }
 
     pub beyond-at : (withinLimit (nodeEnds bs n .low) && withinLimit (nodeEnds bs n .high)) ≡ false → refuse 8 (nodesAt bs + n) ≡ boundsFault bs
     unfolding unless boundsFault rows
-    beyond-at t = rw length-listed (sym (first-stays ownFault (nodesAt bs) n (nodeCount bs) 8 (w .no-fault) (own-fault n h ∙ ap (unless 8) t) h))
+    beyond-at t = rw length-listed (sym (first-at ownFault (nodesAt bs) n (w .no-fault) (own-fault n h ∙ ap (unless 8) t) h))
 
   pub passing-all : {lows highs : List ℤ} {n : ℕ} → Passing lows highs n → n ≡ nodeCount bs → none ≡ boundsFault bs
   unfolding boundsFault rows

@@ -10,26 +10,18 @@ use borrow.Author.Tests.{leb-true, eqb-true, lt-ltb, le-ltb}
 use lib.Dec.{eqb, leb}
 use lib.ListN.{length}
 use Rattle.numbers.specs.Limits.{mostBytes}
+use Rattle.numbers.proofs.Tests.{and-left, and-right}
 use Rattle.table.specs.Records.{recordSize, recordCount}
 use Rattle.answers.specs.Sections.{restAt}
 use Rattle.answers.specs.Check.{Refusal, refuse, lengthAllowed, lengthFault, restFault, checkFault}
 use Rattle.answers.specs.Answers as Answers
-use Rattle.answers.specs.Answers.{Answer, done, refused}
-use Rattle.answers.proofs.FirstFault.{orElse-none, orElse-some}
+use Rattle.answers.proofs.Faults.{orElse-none, orElse-some}
 use Rattle.nodes.specs.Known.{bodyFault}
 use Rattle.verdict.specs.declared.Check.{Check}
 use Rattle.verdict.specs.Results.{refusalOf, answerOf}
 use Rattle.checker.specs.Chain.{recordsFault}
 
 -- ---- an allowed length
-
-and-left : (a b : Bool) → (a && b) ≡ true → a ≡ true
-and-left true b e = refl
-and-left false b e = e
-
-and-right : (a b : Bool) → (a && b) ≡ true → b ≡ true
-and-right true b e = e
-and-right false b e = cc
 
 module _ (bs : List ℕ) (e : lengthAllowed bs ≡ true) where
   tests : (leb recordSize (length bs) && leb (length bs) mostBytes && eqb (length bs % recordSize) 0) ≡ true

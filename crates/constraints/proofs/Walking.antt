@@ -21,7 +21,7 @@ use Rattle.answers.specs.Sections.{listed, constraintsAt, nodeCount, constraint
 use Rattle.answers.specs.Check.{checkFault}
 use Rattle.answers.specs.Answers.{unset, valueOfConstraint, allCalm, verdict, verdicts, allOne}
 use Rattle.answers.proofs.Listed.{length-listed}
-use Rattle.answers.proofs.NodeTrees.{length-rows}
+use Rattle.answers.proofs.Declared.{length-rows}
 use Rattle.answers.proofs.ConstraintsFit.{ConstraintPassed, none→ConstraintPassed}
 use Rattle.answers.proofs.Passed.{Passed, checkFault≡none→Passed, Passed→SectionsOrdered, few-records}
 use Rattle.operations.specs.declared.values.Walked.{Walked}

@@ -1,10 +1,10 @@
 -- What the walk over the arrays keeps: the arrays passed have no fault.
 -- Assumes nothing.
-use mathlib.Core.Path.{_≡_, refl, sym, _∙_, ap}
+use mathlib.Core.Path.{_≡_, sym, _∙_, ap}
 use mathlib.Core.Bool.{Bool, true, false}
 use mathlib.Core.List.{List}
 use mathlib.Core.Option.{Option, none, some, orElse}
-use Prim.Native.Nat.{ℕ, zero, suc, _+_, _*_, _-_, _≤_, _<_}
+use Prim.Native.Nat.{ℕ, suc, _+_, _*_, _-_, _≤_, _<_}
 use native.Mathlib.Nat.{add-zero}
 use native.Mathlib.Numerals.{add-one}
 use native.Mathlib.Omega.{arith}
@@ -12,7 +12,7 @@ use lib.IntN.{natAbs}
 use Rattle.table.specs.Records.{AR, recordSize, recordCount, wordAt, marked, kindAt, yAt, signed}
 use Rattle.answers.specs.Sections.{sortOfKind, behindArray}
 use Rattle.answers.specs.Check.{Refusal, refuse, firstFault, arrayFault, elementFault, arraysFault}
-use Rattle.answers.proofs.FirstFault.{orElse-none, orElse-some}
+use Rattle.answers.proofs.Faults.{orElse-none, orElse-some}
 use Rattle.answers.proofs.SoundSections.{arrays-fault-on, arrays-fault-stop}
 use Rattle.verdict.specs.Results.{faultAt, isNone}
 use Rattle.verdict.proofs.Soundness.{unsound-first}

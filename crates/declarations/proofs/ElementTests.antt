@@ -1,6 +1,6 @@
 -- The tests of the code on an element are those of document 01.
 -- Assumes nothing.
-use mathlib.Core.Path.{_≡_, refl, sym, _∙_, ap}
+use mathlib.Core.Path.{_≡_, refl, sym}
 use mathlib.Core.Bool.{Bool, true, false, cond, not, _&&_, _||_}
 use mathlib.Core.List.{List}
 use mathlib.Core.Option.{none, some, orElse}
@@ -8,12 +8,12 @@ use Prim.Native.Nat.{ℕ, zero, suc, _+_, _*_, _≤_, _<_}
 use native.Mathlib.Omega.{arith}
 use borrow.Author.Tests.{eq-eqb, ne-eqb, lt-ltb, le-ltb}
 use lib.Dec.{eqb, leb, ltb}
-use lib.IntN.{natAbs}
+use Rattle.numbers.proofs.Tests.{T→≡true}
 use Rattle.language.specs.Syntax.{boolean, integer}
-use Rattle.table.specs.Records.{EL, recordSize, recordCount, wordAt, marked, kindAt, auxAt, xAt, yAt, signed}
+use Rattle.table.specs.Records.{EL, recordSize, wordAt, marked, kindAt, auxAt, xAt, yAt, signed}
 use Rattle.answers.specs.Sections.{sortOfKind, variablesAt, variableCount}
 use Rattle.answers.specs.Check.{unless, isZero, isKind, names, sameSort, variableSort, constantAllowed, elementFault}
-use Rattle.answers.proofs.FirstFault.{orElse-left, unless-holds}
+use Rattle.answers.proofs.Faults.{none-orElse, none-unless}
 use Rattle.answers.proofs.SignedWords.{zero-word, bit-word, names-word, named-word}
 use Rattle.declarations.specs.Elements.{Variables}
 
@@ -50,7 +50,7 @@ module _ (bs : List ℕ) (s p : ℕ) where
   -- no fault: it has the mark
   pub element-marked : elementFault bs (sortOfKind s) p ≡ none → marked bs EL p ≡ true
   unfolding elementFault
-  element-marked e = unless-holds 2 (marked bs EL p) (orElse-left _ _ e)
+  element-marked e = T→≡true (marked bs EL p) (none-unless 2 _ (none-orElse _ _ e .0))
 
   module _ {k a x y : ℕ} (f : Fields bs p k a x y) (m : marked bs EL p ≡ true) where
     abbrev allowed : Bool

@@ -1,20 +1,18 @@
 -- The tests of the code, on the bits of the fields, are those of document 01.
 -- Assumes nothing.
-use mathlib.Core.Path.{_≡_, refl, sym, _∙_, ap}
-use mathlib.Core.Bool.{Bool, true, false, cond, not, _&&_, _||_}
+use mathlib.Core.Path.{_≡_, refl}
+use mathlib.Core.Bool.{Bool, true, false, _&&_}
 use mathlib.Core.List.{List, []}
-use mathlib.Core.Option.{Option, none, some, Option·map, orElse}
-use Prim.Native.Nat.{ℕ, zero, suc, _+_, _*_, _≤_, _<_}
+use mathlib.Core.Option.{Option, some, orElse}
+use Prim.Native.Nat.{ℕ, _+_, _*_, _≤_, _<_}
 use native.Mathlib.Omega.{arith}
 use borrow.Author.Tests.{eq-eqb, ne-eqb}
 use lib.Dec.{eqb, leb, ltb}
-use lib.IntN.{ℤ, pos}
 use Rattle.numbers.specs.Limits.{mostVariables, mostSlots, mostArrays}
-use Rattle.language.specs.Meaning.{count}
 use Rattle.table.specs.Records.{HD, recordSize, recordCount, wordAt, marked, kindAt, auxAt, xAt, yAt, signed}
 use Rattle.table.specs.Words.{lift}
 use Rattle.answers.specs.Sections.{slotOf}
-use Rattle.answers.specs.Check.{Refusal, unless, firstFault, isZero, near, isKind, headerFault, domainAllowed, variableFault, slotFault, arrayFault}
+use Rattle.answers.specs.Check.{unless, firstFault, near, isKind, headerFault, domainAllowed, variableFault, slotFault, arrayFault}
 use Rattle.verdict.specs.Results.{faultAt}
 use Rattle.answers.proofs.SignedWords.{eq-word, zero-word, le-words, between-word, count-words}
 

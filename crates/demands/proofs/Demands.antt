@@ -2,17 +2,18 @@
 -- Assumes nothing.
 use mathlib.Core.Path.{_≡_, refl, sym, ap, _∙_}
 use Prim.Native.Nat.{ℕ}
-use mathlib.Core.Bool.{false}
+use mathlib.Core.Bool.{Bool, false}
 use mathlib.Core.List.{List, []}
 use mathlib.Core.Option.{none}
+use lib.Dec.{T}
 use lib.ListN.{length}
 use Rattle.language.specs.Meaning.{Assignment}
 use Rattle.answers.specs.Answers as Answers
 use Rattle.answers.specs.Answers.{Outcome, done, outcome, verdicts, translation}
 use Rattle.answers.proofs.Faults.{none-orElse}
 use Rattle.answers.proofs.Translatable.{Translatable, none→Translatable}
-use Rattle.demands.specs.Demands.{OneAnswer, first, chosen, checkOrder, translateOrder, evaluateOrder, Answered, AnsweredWith, Demand1, Evaluated, written, Written, Demand2, Demand3}
-use Rattle.demands.proofs.Numbers.{upTo, Numbered, Numbered-orElse, Numbered-unless, Numbered-check, Numbered-assignment, Numbered-bounds, Numbered-room}
+use Rattle.demands.specs.Demands.{OneAnswer, first, refuseUnless, chosen, checkOrder, translateOrder, evaluateOrder, Answered, AnsweredWith, Demand1, Evaluated, written, Written, Demand2, Demand3}
+use Rattle.answers.proofs.Numbers.{upTo, Numbered, Numbered-orElse, Numbered-unless, Numbered-check, Numbered-assignment, Numbered-bounds, Numbered-room}
 use Rattle.demands.proofs.Outcomes.{translation-done, evaluation-done, check-is, translate-is, evaluate-is, outcome-answered, number-0→none}
 use Rattle.demands.proofs.TotalTable.{translation-total}
 use Rattle.demands.proofs.Verdicts.{length-verdicts, getD-verdicts, allOne-verdicts, take-written, drop-written, getD-written}
@@ -30,6 +31,11 @@ one-answer =
 
 -- ---- demand 1
 
+-- A test that fails refuses with its number.
+Numbered-refuseUnless : (ok : ℕ → Bool) (n : ℕ) (b : Bool) → T (ok n) → Numbered ok (refuseUnless n b)
+unfolding refuseUnless
+Numbered-refuseUnless ok n b h = Numbered-unless ok n b h
+
 -- Each order has the numbers of its call.
 checkOrder-numbered : (table : List ℕ) → Numbered (upTo 6) (first (checkOrder table))
 unfolding first checkOrder
@@ -38,16 +44,16 @@ checkOrder-numbered table = Numbered-orElse (upTo 6) _ _ (Numbered-check (upTo 6
 evaluateOrder-numbered : (choice : ℕ) (table : List ℕ) (α : Assignment) (budget room : ℕ) → Numbered (upTo 11) (first (evaluateOrder choice table α budget room))
 unfolding first evaluateOrder
 evaluateOrder-numbered choice table α budget room =
-    Numbered-orElse (upTo 11) _ _ (Numbered-unless (upTo 11) 7 _ tt)
+    Numbered-orElse (upTo 11) _ _ (Numbered-refuseUnless (upTo 11) 7 _ tt)
     (Numbered-orElse (upTo 11) _ _ (Numbered-check (upTo 11) tt tt tt tt tt tt table)
     (Numbered-orElse (upTo 11) _ _ (Numbered-assignment (upTo 11) table α tt)
-    (Numbered-orElse (upTo 11) _ _ (Numbered-unless (upTo 11) 9 _ tt)
-    (Numbered-orElse (upTo 11) _ _ (Numbered-unless (upTo 11) 11 _ tt) (Numbered-orElse (upTo 11) _ _ (Numbered-unless (upTo 11) 8 _ tt) tt)))))
+    (Numbered-orElse (upTo 11) _ _ (Numbered-refuseUnless (upTo 11) 9 _ tt)
+    (Numbered-orElse (upTo 11) _ _ (Numbered-refuseUnless (upTo 11) 11 _ tt) (Numbered-orElse (upTo 11) _ _ (Numbered-refuseUnless (upTo 11) 8 _ tt) tt)))))
 
 translateOrder-numbered : (choice : ℕ) (table : List ℕ) (room : ℕ) → Numbered (upTo 9) (first (translateOrder choice table room))
 unfolding first translateOrder
 translateOrder-numbered choice table room =
-    Numbered-orElse (upTo 9) _ _ (Numbered-unless (upTo 9) 7 _ tt)
+    Numbered-orElse (upTo 9) _ _ (Numbered-refuseUnless (upTo 9) 7 _ tt)
     (Numbered-orElse (upTo 9) _ _ (Numbered-check (upTo 9) tt tt tt tt tt tt table)
     (Numbered-orElse (upTo 9) _ _ (Numbered-bounds (upTo 9) table tt) (Numbered-orElse (upTo 9) _ _ (Numbered-room (upTo 9) table (chosen choice) room tt) tt)))
 

@@ -1,6 +1,5 @@
 pub mod Demands
 pub mod EveryNode
-pub mod Numbers
 pub mod Outcomes
 pub mod TotalTable
 pub mod Useless

@@ -16,7 +16,7 @@ use Rattle.answers.specs.Check.{Refusal, refuse, checkFault}
 use Rattle.answers.specs.Answers as Answers
 use Rattle.answers.specs.Answers.{Answer, Outcome, refused, done, outcome, readingOf, underChoice, assignmentFault, totalCost, allCalm, verdicts, allOne, evaluationFault, evaluateUnder, boundsFault, roomFault, translation, translationFault, translateUnder}
 use Rattle.demands.specs.Demands.{first, refuseUnless, isReading, chosen, checkOrder, translateOrder, evaluateOrder, Answered, AnsweredWith}
-use Rattle.demands.proofs.Numbers.{upTo, Numbered}
+use Rattle.answers.proofs.Numbers.{upTo, Numbered}
 
 -- ---- the calls
 

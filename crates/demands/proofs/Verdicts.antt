@@ -17,7 +17,7 @@ use Rattle.language.specs.Meaning.{Assignment}
 use Rattle.rules.specs.Demand.{isTrue}
 use Rattle.answers.specs.Sections.{constraints}
 use Rattle.answers.specs.Answers.{valueOfConstraint, verdict, verdicts, allOne}
-use Rattle.answers.proofs.Declared.{getD-map}
+use Rattle.numbers.proofs.Lists.{getD-map}
 use Rattle.demands.specs.Demands.{constraintAt}
 
 module _ (table : List ℕ) (ρ : Reading) (α : Assignment) where
@@ -29,7 +29,7 @@ module _ (table : List ℕ) (ρ : Reading) (α : Assignment) where
   -- in the constraints' order.
   pub getD-verdicts : (i : ℕ) → i < length (constraints table) → getD (verdicts table ρ α) i 0 ≡ verdict table ρ α (valueOfConstraint table ρ α (constraintAt table i))
   unfolding verdicts constraintAt
-  getD-verdicts i l = getD-map (λ k. verdict table ρ α (valueOfConstraint table ρ α k)) (constraints table) 0 0 i l
+  getD-verdicts i l = getD-map (λ k. verdict table ρ α (valueOfConstraint table ρ α k)) (constraints table) i 0 0 l
 
   -- A verdict is 1 exactly for true.
   one→true : (v : Option Bool) → T (eqb (verdict table ρ α v) 1) → v ≡ some true

@@ -1,12 +1,12 @@
 -- A list that is copied to from the front of another.
 -- Assumes nothing.
-use mathlib.Core.Path.{_≡_, refl, sym, ap}
-use Prim.Native.Nat.{ℕ, suc, _+_, _≤_, _<_}
+use mathlib.Core.Path.{_≡_, refl, sym}
+use Prim.Native.Nat.{ℕ, suc, _+_, _-_, _≤_, _<_}
 use native.Mathlib.Numerals.{add-one}
 use native.Mathlib.Omega.{arith}
-use mathlib.Core.List.{List, [], _∷_, _++_}
+use mathlib.Core.List.{List, _++_}
 use lib.ListN.{length, getD, set, take, drop, length-append, length-drop}
-use lib.Seq.{take-suc, drop-cons, append-snoc, length-take-le}
+use lib.Seq.{take-suc, drop-cons, append-snoc, set-at, length-take-le}
 
 -- the first i elements are xs's, and the others are those that stood there
 pub record Copied (xs old out : List ℕ) (i : ℕ) : Type 0 where
@@ -15,14 +15,10 @@ pub record Copied (xs old out : List ℕ) (i : ℕ) : Type 0 where
 pub copied-none : (xs old : List ℕ) → Copied xs old old 0
 copied-none xs old = record { so-far = refl }
 
-set-at : (xs ys : List ℕ) (y v i : ℕ) → length xs ≡ i → set (xs ++ (y ∷ ys)) i v ≡ xs ++ (v ∷ ys)
-set-at [] ys y v i e = rw (← e)
-set-at (x ∷ xs) ys y v i e = rw (← e) (ap (λ (l : List ℕ). x ∷ l) (set-at xs ys y v (length xs) refl))
-
 pub copied-more : {xs old out : List ℕ} {i : ℕ} → Copied xs old out i → i < length xs → i < length old → Copied xs old (set out i (getD xs i 0)) (i + 1)
 copied-more {xs} {old} {out} {i} c h k =
     record {
-      so-far = rw (c .so-far, drop-cons old i 0 k, set-at (take i xs) (drop (suc i) old) (getD old i 0) (getD xs i 0) i (length-take-le i xs (omega arith)), add-one i, take-suc xs i 0 h) (sym (append-snoc (take i xs) (getD xs i 0) (drop (suc i) old)));
+      so-far = rw (c .so-far, drop-cons old i 0 k, set-at (take i xs) (getD old i 0) (drop (suc i) old) (getD xs i 0) i (length-take-le i xs (omega arith)), add-one i, take-suc xs i 0 h) (sym (append-snoc (take i xs) (getD xs i 0) (drop (suc i) old)));
     }
 
 -- As many elements stand there as before.

@@ -2,7 +2,7 @@
 -- Assumes nothing.
 use mathlib.Core.Path.{_≡_, refl, sym, ap, _∙_}
 use mathlib.Core.Logic.{⊎-elim}
-use Prim.Native.Nat.{ℕ, _+_, _≤_, _<_}
+use Prim.Native.Nat.{ℕ, _+_, _-_, _≤_, _<_}
 use native.Mathlib.Omega.{arith}
 use mathlib.Core.Bool.{Bool, true, false, cond}
 use mathlib.Core.List.{List, _++_}
@@ -16,9 +16,8 @@ use Rattle.language.specs.Meaning.{Assignment}
 use Rattle.answers.specs.Sections.{constraints}
 use Rattle.answers.specs.Check.{Refusal, refuse, checkFault}
 use Rattle.answers.specs.Answers as Answers
-use Rattle.answers.specs.Answers.{Outcome, refused, outcome, readingOf, underChoice, assignmentFault, totalCost, allCalm, verdicts, allOne, evaluationFault, evaluateUnder}
-use Rattle.answers.proofs.Faults.{none-cond}
-use Rattle.answers.proofs.FirstFault.{orElse-none, orElse-some, orElse-left, orElse-right}
+use Rattle.answers.specs.Answers.{Outcome, refused, outcome, readingOf, underChoice, assignmentFault, totalCost, allCalm, verdicts, evaluationFault, evaluateUnder, allOne}
+use Rattle.answers.proofs.Faults.{orElse-none, orElse-some, none-orElse, none-cond}
 use Rattle.layout.proofs.Checked.{checked}
 use Rattle.steps.specs.Capped.{pastBudgets, capped}
 use Rattle.steps.proofs.Caps.{capped-low, capped-high}
@@ -97,7 +96,7 @@ admits-unassigned table α budget room p e = record { fault = sym (orElse-some _
 pub admitted-room : (table : List ℕ) (α : Assignment) (budget room : ℕ) → none ≡ faultBefore table α budget room → length (constraints table) ≤ room
 unfolding faultBefore
 admitted-room table α budget room e =
-    leb→le (length (constraints table)) room (none-cond (leb (length (constraints table)) room) _ (orElse-left _ _ (orElse-right (assignmentFault table α) _ (sym e))))
+    leb→le (length (constraints table)) room (none-cond (leb (length (constraints table)) room) _ (none-orElse _ _ (none-orElse (assignmentFault table α) _ (sym e) .1) .0))
 
 -- ---- the refusals, in order
 

@@ -26,7 +26,7 @@ use Rattle.operations.specs.Integers.{integers, negated, numbered}
 use Rattle.operations.specs.Truths.{compared, connected, opposed}
 use Rattle.evaluator.specs.Nodes.{integerCase, truthCase}
 use Rattle.evaluator.specs.Walks.{nodeCount, declared, rowAt, treesOf, Laid, settingOf, integerWalked, truthWalked, lookedUp, lookedUpTruth, integerAt, truthAt, sumAt, quantifiedAt}
-use Rattle.evaluator.proofs.Declared.{length-listed, listed-at}
+use Rattle.answers.proofs.Listed.{length-listed, getD-listed}
 use Rattle.evaluator.proofs.Walking.{walked-arith, walked-divide, walked-negate, walked-number, walked-lookup, walked-connect, walked-not, walked-compare, walked-lookupB}
 
 -- ---- smaller numbers
@@ -208,7 +208,7 @@ module _ (ρ : readings.Reading) (bs places : List ℕ) (α : Assignment) (value
       ∙ ap (fill (trees (listed (nodeCount places) (rowAt bs places)))) at
     where
       at : getD (listed (nodeCount places) (rowAt bs places)) n (truthRow false) ≡ rowAt bs places n
-      at = listed-at (nodeCount places) (rowAt bs places) n (truthRow false) h
+      at = getD-listed (nodeCount places) (rowAt bs places) (truthRow false) n h
 
   pub integer-node : (n : ℕ) → Laid bs places → n < nodeCount places → integerAt ρ bs places α values n ≡ integerOfCase (integerCase (rowAt bs places n))
   unfolding integerAt treeI

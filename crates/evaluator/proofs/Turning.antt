@@ -12,7 +12,7 @@ use lib.Seq.{set-set, set-getD}
 use mir.Syntax.{w32}
 use mir.Val.{SFits, toZ, ofZ}
 use mir.Facts.{toZ-ofZ}
-use Rattle.numbers.proofs.Widths.{natAbs-+}
+use Rattle.numbers.proofs.Magnitudes.{natAbs-+-≤}
 use Rattle.language.specs.Syntax as syntax
 use Rattle.language.specs.Readings as readings
 use Rattle.language.specs.Readings.{joins}
@@ -52,7 +52,7 @@ module _ {bs places : List ℕ} (l : Laid bs places) (s : ℕ) {r : Range} (e : 
 
   -- The value of a turn fits.
   pub value-fits : (k : ℕ) → SFits w32 (r .low) → k < r .count → (r .count ≡ 0 → ⊥) → SFits w32 (toZ w32 (ofZ w32 (r .low)) +ℤ pos k)
-  value-fits k f h n = rw (toZ-ofZ f) (natAbs→narrow (r .low +ℤ pos k) (omega (arith, natAbs-+ (r .low) (pos k), near, few-turns n)))
+  value-fits k f h n = rw (toZ-ofZ f) (natAbs→narrow (r .low +ℤ pos k) (omega (arith, natAbs-+-≤ (r .low) (pos k), near, few-turns n)))
     where
       near : natAbs (r .low) ≤ 1_000_000_000
       near = subst (λ z. natAbs z ≤ 1_000_000_000) (sym (ap (λ (r : Range). r .low) e ∙ ap (λ (s : syntax.Slot). s .low) (slot-declared bs places s (slot-named n)))) (l .near-slots s (slot-named n))

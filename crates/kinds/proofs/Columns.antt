@@ -1,23 +1,17 @@
 -- A column of the table of kinds at a row.
 -- Assumes nothing.
 use mathlib.Core.Path.{_≡_, refl, ap, sym}
-use mathlib.Core.List.{List, [], _∷_, map}
+use mathlib.Core.List.{map}
 use mathlib.Core.Option.{Option, none}
 use mathlib.Core.Bool.{Bool, true, false, cond}
-use Prim.Native.Nat.{ℕ, zero, suc, _≤_, _<_}
-use native.Mathlib.Nat.{le-of-suc-le-suc, not-suc-le-zero}
+use Prim.Native.Nat.{ℕ, _≤_, _<_}
 use native.Mathlib.Omega.{arith}
 use borrow.Author.Tests.{ltb-true, ltb-false}
 use lib.Dec.{ltb}
-use lib.ListN.{length, getD, List·getD-eq-default}
+use lib.ListN.{getD, List·getD-eq-default}
+use Rattle.numbers.proofs.Lists.{getD-map}
 use Rattle.table.specs.Kinds.{Kind, kinds, kindOf}
 use Rattle.kinds.specs.Entries.{rowOf}
-
--- an element of a list of results
-pub getD-map : {A B : Type 0} (f : A → B) (xs : List A) (n : ℕ) (d : A) (e : B) → n < length xs → getD (map f xs) n e ≡ f (getD xs n d)
-getD-map f [] n d e h = absurd (not-suc-le-zero h)
-getD-map f (x ∷ xs) zero d e h = refl
-getD-map f (x ∷ xs) (suc n) d e h = getD-map f xs n d e (le-of-suc-le-suc h)
 
 pub row-within : (n : ℕ) → rowOf n < 31
 unfolding rowOf

@@ -1,19 +1,18 @@
 -- A column of the table of kinds, filled from the front.
 -- Assumes nothing.
 use mathlib.Core.Path.{_≡_, refl, _∙_, sym}
-use mathlib.Core.Logic.{⊎-elim}
 use mathlib.Core.List.{List, map}
 use mathlib.Core.Option.{Option, none, some}
 use Prim.Native.Nat.{ℕ, _+_, _<_}
 use native.Mathlib.Omega.{arith}
-use lib.ListN.{length, getD, set, replicate, length-set}
-use lib.Seq.{getD-set-same, getD-set-other, ext-getD}
-use Rattle.numbers.proofs.Naturals.{lt-or-ge}
+use lib.ListN.{set, replicate}
+use lib.Seq.{ext-getD}
+use Rattle.numbers.proofs.Lists as lists
+use Rattle.numbers.proofs.Lists.{getD-map}
 use Rattle.language.specs.Syntax as Syntax
 use Rattle.table.specs.Kinds as Kinds
 use Rattle.table.specs.Kinds.{Kind, kinds, kindOf}
 use Rattle.kinds.specs.Entries.{sortOf, operandOf, entryOf, tag, codeOf, codeX, codeY, tagOf, bindsIn, bindsOf, sortTag, operandCode, binderFlag}
-use Rattle.kinds.proofs.Columns.{getD-map}
 
 -- ---- the numbers of an entry are those of its kind
 
@@ -80,25 +79,19 @@ entry-tag (some k) = sort-tag (k .yields)
 
 -- ---- filling
 
-pub record Filled (f : Option Kind → ℕ) (n : ℕ) (column : List ℕ) : Type 0 where
-  pub sized : length column ≡ 31
-  pub before : (k : ℕ) → k < n → getD column k 0 ≡ f (kindOf k)
+-- the first n entries of a column are those of the kinds 0, 1, ..
+abbrev pub Filled : (Option Kind → ℕ) → ℕ → List ℕ → Type 0
+Filled f n column = lists.Filled 0 31 (λ k. f (kindOf k)) column n
 
 module _ (f : Option Kind → ℕ) where
   pub filled-none : Filled f 0 (replicate 31 0)
-  filled-none = record { sized = refl; before = λ k h. absurd (omega arith) }
+  filled-none = lists.filled-none 0 31 (λ k. f (kindOf k)) refl
 
   pub filled-more : {n : ℕ} {column : List ℕ} → Filled f n column → n < 31 → {v : ℕ} → v ≡ f (kindOf n) → Filled f (n + 1) (set column n v)
-  filled-more {n} {column} w h {v} e =
-      record {
-        sized = length-set column n v ∙ w .sized;
-        before = λ k l. ⊎-elim (λ m. getD-set-other column n k v 0 (λ z. omega arith) ∙ w .before k m) (λ m. at-n k (omega arith)) (lt-or-ge k n);
-      }
-    where
-      at-n : (k : ℕ) → k ≡ n → getD (set column n v) k 0 ≡ f (kindOf k)
-      at-n k z = rw z (getD-set-same column n v 0 (omega (arith, w .sized)) ∙ e)
+  filled-more = lists.filled-more 0 31 (λ k. f (kindOf k))
 
-  pub filled-all : {column : List ℕ} → Filled f 31 column → column ≡ map f kinds
+  pub filled-all : {n : ℕ} {column : List ℕ} → Filled f n column → n ≡ 31 → column ≡ map f kinds
   unfolding kindOf kinds
-  filled-all {column} w =
-      ext-getD 0 column (map f kinds) (w .sized) (λ k h. let l : k < 31 = rw (w .sized) at h in w .before k l ∙ sym (getD-map f kinds k none 0 l))
+  filled-all {n} {column} w e =
+      ext-getD 0 column (map f kinds) (w .sized)
+      (λ k h. let l : k < 31 = rw (w .sized) at h in w .before k (omega arith) ∙ sym (getD-map f kinds k none 0 l))

@@ -1,6 +1,4 @@
 pub mod Checked
-pub mod FirstFaults
-pub mod Numbered
 pub mod Order
 pub mod Runs
 pub mod Walked

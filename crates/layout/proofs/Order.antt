@@ -1,45 +1,27 @@
 -- The sections of a checked table stand in order, within the table.
 -- Assumes nothing.
 use mathlib.Core.Path.{_≡_, refl, ap}
-use mathlib.Core.Logic.{⊎-elim}
 use Prim.Native.Nat.{ℕ, zero, suc, _%_, _≤_, _<_}
 use native.Mathlib.Omega.{arith}
 use mathlib.Core.Bool.{Bool, true, false}
 use mathlib.Core.List.{List}
 use lib.ListN.{length, getD}
-use Rattle.numbers.proofs.Naturals.{lt-or-ge}
 use Rattle.table.specs.Records.{Mark, VR, SL, AR, ND, CN, marked, recordCount, recordSize}
 use Rattle.answers.specs.Sections.{runEnd, endOf, behindArray, arraysFrom, arraysEnd, variablesAt, slotsAt, arraysAt, nodesAt, constraintsAt, restAt, arrayRecords}
 use Rattle.layout.specs.Passed.{Passed}
 use Rattle.layout.specs.Places.{layoutOf}
 use Rattle.layout.specs.declared.Layout.{Layout}
-use Rattle.layout.proofs.Runs.{run-stop, run-more, arrays-stop, arrays-more, records-stop, records-more, unmarked-past}
-
-clash : {A : Type 0} {b : Bool} → b ≡ true → b ≡ false → A
-clash p q = let z : _≡_ {A = ℕ} 0 1 = cc in absurd (omega arith)
+use Rattle.answers.proofs.RunEnds.{run-stop, run-on, arrays-end-stop, arrays-end-on, arrays-stop, arrays-on, marked-within, run-above}
 
 module _ (bs : List ℕ) where
-  -- A marked record lies within the table.
-  pub marked-within : (m : Mark) (p : ℕ) → length bs % recordSize ≡ 0 → marked bs m p ≡ true → p < recordCount bs
-  marked-within m p w e = ⊎-elim (λ h. h) (λ h. clash e (unmarked-past bs m p w h)) (lt-or-ge p (recordCount bs))
-
-  -- A run ends where it begins or later, and within the table if it begins there.
-  run-≥ : (m : Mark) (f p : ℕ) → p ≤ runEnd bs m f p
-  unfolding runEnd
-  run-≥ m zero p = omega arith
-  run-≥ m (suc f) p = by-mark (run-≥ m f (suc p)) (marked bs m p) refl
-    where
-      by-mark : suc p ≤ runEnd bs m f (suc p) → (b : Bool) → marked bs m p ≡ b → p ≤ runEnd bs m (suc f) p
-      by-mark more true e = rw (run-more bs m (suc f) f p refl e) (omega arith)
-      by-mark more false e = rw (run-stop bs m (suc f) p e) (omega arith)
-
+  -- A run that begins within the table ends there.
   run-≤ : (m : Mark) → length bs % recordSize ≡ 0 → (f p : ℕ) → p ≤ recordCount bs → runEnd bs m f p ≤ recordCount bs
   unfolding runEnd
   run-≤ m w zero p h = h
   run-≤ m w (suc f) p h = by-mark (λ k. run-≤ m w f (suc p) k) (marked bs m p) refl
     where
       by-mark : (suc p ≤ recordCount bs → runEnd bs m f (suc p) ≤ recordCount bs) → (b : Bool) → marked bs m p ≡ b → runEnd bs m (suc f) p ≤ recordCount bs
-      by-mark more true e = rw (run-more bs m (suc f) f p refl e) (more (marked-within m p w e))
+      by-mark more true e = rw (run-on bs m (suc f) f p refl e) (more (marked-within bs w m p e))
       by-mark more false e = rw (run-stop bs m (suc f) p e) h
 
   arrays-≥ : (f p : ℕ) → p ≤ arraysEnd bs f p
@@ -48,8 +30,8 @@ module _ (bs : List ℕ) where
   arrays-≥ (suc f) p = by-mark (arrays-≥ f (behindArray bs p)) (marked bs AR p) refl
     where
       by-mark : behindArray bs p ≤ arraysEnd bs f (behindArray bs p) → (b : Bool) → marked bs AR p ≡ b → p ≤ arraysEnd bs (suc f) p
-      by-mark more true e = rw (arrays-more bs (suc f) f p refl e) (omega arith)
-      by-mark more false e = rw (arrays-stop bs (suc f) p e) (omega arith)
+      by-mark more true e = rw (arrays-end-on bs (suc f) f p refl e) (omega arith)
+      by-mark more false e = rw (arrays-end-stop bs (suc f) p e) (omega arith)
 
   -- Each array's elements end before the arrays do.
   pub behind-≤ : (f p a : ℕ) → a < length (arraysFrom bs f p) → behindArray bs (getD (arraysFrom bs f p) a 0) ≤ arraysEnd bs f p
@@ -58,9 +40,9 @@ module _ (bs : List ℕ) where
   behind-≤ (suc f) p a h = by-mark (λ b l. behind-≤ f (behindArray bs p) b l) (marked bs AR p) refl a h
     where
       by-mark : ((b : ℕ) → b < length (arraysFrom bs f (behindArray bs p)) → behindArray bs (getD (arraysFrom bs f (behindArray bs p)) b 0) ≤ arraysEnd bs f (behindArray bs p)) → (b : Bool) → marked bs AR p ≡ b → (a : ℕ) → a < length (arraysFrom bs (suc f) p) → behindArray bs (getD (arraysFrom bs (suc f) p) a 0) ≤ arraysEnd bs (suc f) p
-      by-mark more true e zero h = rw (records-more bs (suc f) f p refl e, arrays-more bs (suc f) f p refl e) (arrays-≥ f (behindArray bs p))
-      by-mark more true e (suc a) h = rw (records-more bs (suc f) f p refl e, arrays-more bs (suc f) f p refl e) (more a (omega (arith, ap length (records-more bs (suc f) f p refl e))))
-      by-mark more false e a h = absurd (omega (arith, ap length (records-stop bs (suc f) p e)))
+      by-mark more true e zero h = rw (arrays-on bs (suc f) f p refl e, arrays-end-on bs (suc f) f p refl e) (arrays-≥ f (behindArray bs p))
+      by-mark more true e (suc a) h = rw (arrays-on bs (suc f) f p refl e, arrays-end-on bs (suc f) f p refl e) (more a (omega (arith, ap length (arrays-on bs (suc f) f p refl e))))
+      by-mark more false e a h = absurd (omega (arith, ap length (arrays-stop bs (suc f) p e)))
 
   pub record Ordered : Type 0 where
     pub variables : 1 ≤ slotsAt bs
@@ -76,12 +58,12 @@ module _ (bs : List ℕ) where
   unfolding variablesAt slotsAt arraysAt nodesAt constraintsAt restAt endOf recordCount recordSize
   ordered p =
       record {
-        variables = run-≥ VR _ _;
-        slots = run-≥ SL _ _;
+        variables = run-above bs VR _ _;
+        slots = run-above bs SL _ _;
         arrays = arrays-≥ _ _;
         inside = p .inside;
-        nodes = run-≥ ND _ _;
-        constraints = run-≥ CN _ _;
+        nodes = run-above bs ND _ _;
+        constraints = run-above bs CN _ _;
         rest = run-≤ CN (p .whole) _ _ (run-≤ ND (p .whole) _ _ (p .inside));
         few = omega (arith, p .short);
       }

@@ -1,28 +1,14 @@
--- Runs of one mark, and arrays with their elements: where they stop, what one more record adds, and that a walk's length does not
--- matter once it reaches the table's end.
+-- Records as the code reads them: a mark by its letters, a record within the table, and the one behind an array.
 -- Assumes nothing.
-use mathlib.Core.Path.{_≡_, refl}
-use Prim.Native.Nat.{ℕ, zero, suc, _+_, _*_, _%_, _≤_, _<_}
+use mathlib.Core.Path.{_≡_}
+use Prim.Native.Nat.{ℕ, _+_, _*_, _≤_, _<_}
 use native.Mathlib.Omega.{arith}
-use mathlib.Core.Bool.{true, false}
-use mathlib.Core.List.{List, [], _∷_}
-use lib.Dec.{eqb}
+use mathlib.Core.List.{List}
 use lib.IntN.{natAbs}
-use lib.ListN.{length, List·getD-eq-default}
-use Rattle.table.specs.Records.{Mark, HD, VR, SL, AR, EL, ND, CN, recordSize, recordCount, byteAt, marked, firstLetter, secondLetter, yAt}
-use Rattle.answers.specs.Sections.{runEnd, behindArray, arraysFrom, arraysEnd}
+use lib.ListN.{length}
+use Rattle.table.specs.Records.{Mark, recordSize, recordCount, marked, firstLetter, secondLetter, yAt}
+use Rattle.answers.specs.Sections.{behindArray}
 use Rattle.layout.specs.Bytes.{lettered}
-
--- No mark begins with a 0.
-letter-some : (m : Mark) → eqb 0 (firstLetter m) ≡ false
-unfolding firstLetter
-letter-some HD = refl
-letter-some VR = refl
-letter-some SL = refl
-letter-some AR = refl
-letter-some EL = refl
-letter-some ND = refl
-letter-some CN = refl
 
 module _ (bs : List ℕ) where
   -- A mark is its letters.
@@ -35,46 +21,7 @@ module _ (bs : List ℕ) where
   unfolding recordCount recordSize
   within-table h = omega arith
 
-  -- Past the end nothing has a mark.
-  pub unmarked-past : (m : Mark) (p : ℕ) → length bs % recordSize ≡ 0 → recordCount bs ≤ p → marked bs m p ≡ false
-  unfolding marked byteAt recordCount recordSize
-  unmarked-past m p w h = rw (List·getD-eq-default bs 0 {n = 12 * p} (omega arith), letter-some m)
-
-  -- ---- runs
-
-  module _ (m : Mark) where
-    -- A run stops at a record without the mark, and goes on behind one that has it.
-    pub run-stop : (f p : ℕ) → marked bs m p ≡ false → runEnd bs m f p ≡ p
-    unfolding runEnd
-    run-stop zero p e = refl
-    run-stop (suc f) p e = rw (e, runEnd)
-
-    pub run-more : (f g p : ℕ) → f ≡ suc g → marked bs m p ≡ true → runEnd bs m f p ≡ runEnd bs m g (suc p)
-    unfolding runEnd
-    run-more f g p n e = rw (n, e, runEnd)
-
-  -- ---- arrays
-
-  -- Arrays end at a record without the mark, and go on behind the elements of one that has it.
-  pub arrays-stop : (f p : ℕ) → marked bs AR p ≡ false → arraysEnd bs f p ≡ p
-  unfolding arraysEnd
-  arrays-stop zero p e = refl
-  arrays-stop (suc f) p e = rw (e, arraysEnd)
-
-  pub arrays-more : (f g p : ℕ) → f ≡ suc g → marked bs AR p ≡ true → arraysEnd bs f p ≡ arraysEnd bs g (behindArray bs p)
-  unfolding arraysEnd
-  arrays-more f g p n e = rw (n, e, arraysEnd)
-
-  pub records-stop : (f p : ℕ) → marked bs AR p ≡ false → arraysFrom bs f p ≡ []
-  unfolding arraysFrom
-  records-stop zero p e = refl
-  records-stop (suc f) p e = rw (e, arraysFrom)
-
-  pub records-more : (f g p : ℕ) → f ≡ suc g → marked bs AR p ≡ true → arraysFrom bs f p ≡ p ∷ arraysFrom bs g (behindArray bs p)
-  unfolding arraysFrom
-  records-more f g p n e = rw (n, e, arraysFrom)
-
-  -- the record behind an array, as the code adds it up
+  -- The record behind an array, as the code adds it up.
   pub behind-at : (p : ℕ) → p + 1 + natAbs (yAt bs p) ≡ behindArray bs p
   unfolding behindArray
   behind-at p = omega arith

@@ -5,17 +5,18 @@ use mathlib.Core.Logic.{⊎-elim}
 use Prim.Native.Nat.{ℕ, zero, suc, _+_, _-_, _%_, _≤_, _<_}
 use native.Mathlib.Omega.{arith}
 use Rattle.numbers.proofs.Naturals.{lt-or-ge}
+use Rattle.numbers.proofs.Lists.{getD-replicate-same}
 use native.Mathlib.Numerals.{add-one}
 use mathlib.Core.Bool.{Bool, true, false}
 use mathlib.Core.List.{List, [], _∷_}
-use lib.ListN.{length, getD, drop, set, replicate, length-drop, length-set, length-replicate, getD-replicate, List·getD-eq-default}
+use lib.ListN.{length, getD, drop, set, replicate, length-drop, length-set, length-replicate, List·getD-eq-default}
 use lib.Seq.{drop-cons, getD-set-same, getD-set-other}
 use Rattle.numbers.specs.Limits.{mostArrays}
 use Rattle.table.specs.Records.{VR, SL, AR, ND, CN, marked, recordCount, recordSize}
 use Rattle.answers.specs.Sections.{endOf, variablesAt, slotsAt, arraysAt, nodesAt, constraintsAt, restAt, behindArray, arraysFrom, arraysEnd, arrayRecords}
 use Rattle.layout.specs.Places.{arraysOf, layoutOf, ArraysHeld}
 use Rattle.layout.specs.declared.Arrays.{Arrays}
-use Rattle.layout.proofs.Runs.{arrays-stop, arrays-more, records-stop, records-more, unmarked-past}
+use Rattle.answers.proofs.RunEnds.{arrays-end-stop, arrays-end-on, arrays-stop, arrays-on, unmarked-beyond}
 
 -- `count` arrays from `from` on lie before record p, and the others begin there.
 pub record Walked (bs : List ℕ) (from count p : ℕ) : Type 0 where
@@ -34,15 +35,15 @@ module _ (bs : List ℕ) (from : ℕ) where
         let f : recordCount bs - count ≡ suc (recordCount bs - (count + 1)) = omega (arith, w .behind) in
         record {
           behind = omega (arith, w .behind);
-          counted = w .counted ∙ rw (l, records-more bs _ _ p f e) (omega arith);
-          ends = w .ends ∙ rw (l, arrays-more bs _ _ p f e);
+          counted = w .counted ∙ rw (l, arrays-on bs _ _ p f e) (omega arith);
+          ends = w .ends ∙ rw (l, arrays-end-on bs _ _ p f e);
         }
 
     pub walked-all : marked bs AR p ≡ false → record { count = count; end = p } ≡ arraysOf bs from
-    walked-all e = cc (sym (w .ends ∙ arrays-stop bs (recordCount bs - count) p e), all-counted)
+    walked-all e = cc (sym (w .ends ∙ arrays-end-stop bs (recordCount bs - count) p e), all-counted)
       where
         all-counted : count ≡ length (arraysFrom bs (recordCount bs) from)
-        all-counted = omega (arith, w .counted, ap length (records-stop bs (recordCount bs - count) p e))
+        all-counted = omega (arith, w .counted, ap length (arrays-stop bs (recordCount bs - count) p e))
 
 -- ---- array by array
 
@@ -58,19 +59,16 @@ module _ (bs : List ℕ) where
   unfolding arrayRecords
   placed-none =
       let z : recordCount bs - 0 ≡ recordCount bs = omega arith in
-      record { sized = length-replicate {A = ℕ} mostArrays 0; before = λ a h. absurd (omega arith); after = λ a h. zeros a; rest = rw z }
-    where
-      zeros : (a : ℕ) → _≡_ {A = ℕ} (getD (replicate mostArrays 0) a 0) 0
-      zeros a = ⊎-elim (λ h. getD-replicate {A = ℕ} mostArrays a 0 0 h) (λ h. List·getD-eq-default (replicate mostArrays 0) 0 {n = a} (rw length-replicate h)) (lt-or-ge a mostArrays)
+      record { sized = length-replicate {A = ℕ} mostArrays 0; before = λ a h. absurd (omega arith); after = λ a h. getD-replicate-same {A = ℕ} mostArrays a 0; rest = rw z }
 
   module _ {places : List ℕ} {n p : ℕ} (w : Placed bs places n p) (whole : length bs % recordSize ≡ 0) (h : n < length (arrayRecords bs)) where
     -- an array that is counted has its mark
     marked-next : (b : Bool) → marked bs AR p ≡ b → marked bs AR p ≡ true
     marked-next true e = e
-    marked-next false e = absurd (omega (arith, length-drop n (arrayRecords bs), ap length (w .rest ∙ records-stop bs (recordCount bs - n) p e)))
+    marked-next false e = absurd (omega (arith, length-drop n (arrayRecords bs), ap length (w .rest ∙ arrays-stop bs (recordCount bs - n) p e)))
 
     pub next-within : p < recordCount bs
-    next-within = ⊎-elim (λ k. k) (λ k. absurd (clash (sym (marked-next (marked bs AR p) refl) ∙ unmarked-past bs AR p whole k))) (lt-or-ge p (recordCount bs))
+    next-within = ⊎-elim (λ k. k) (λ k. absurd (clash (sym (marked-next (marked bs AR p) refl) ∙ unmarked-beyond bs whole AR p k))) (lt-or-ge p (recordCount bs))
       where
         clash : true ≡ false → ⊥
         clash e = let z : _≡_ {A = ℕ} 0 1 = cc in omega arith
@@ -81,7 +79,7 @@ module _ (bs : List ℕ) where
     fuel (suc f) e = omega arith
 
     split : getD (arrayRecords bs) n 0 ∷ drop (suc n) (arrayRecords bs) ≡ p ∷ arraysFrom bs (recordCount bs - (n + 1)) (behindArray bs p)
-    split = sym (drop-cons (arrayRecords bs) n 0 h) ∙ w .rest ∙ records-more bs _ _ p (fuel (recordCount bs - n) refl) (marked-next (marked bs AR p) refl)
+    split = sym (drop-cons (arrayRecords bs) n 0 h) ∙ w .rest ∙ arrays-on bs _ _ p (fuel (recordCount bs - n) refl) (marked-next (marked bs AR p) refl)
 
     pub placed-more : n < mostArrays → {q : ℕ} → q ≡ behindArray bs p → Placed bs (set places n p) (n + 1) q
     placed-more k {q} e =

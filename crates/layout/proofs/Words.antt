@@ -4,22 +4,15 @@ use mathlib.Core.Path.{_≡_, ap}
 use Prim.Native.Nat.{ℕ, _+_, _-_, _*_, _≤_, _<_}
 use mathlib.Core.List.{List}
 use native.Mathlib.Omega.{arith}
-use borrow.Author.Tests.{lt-ltb, le-ltb}
+use borrow.Author.Tests.{lt-ltb}
 use lib.Dec.{ltb, ltb→lt, nltb→le}
 use mir.Syntax.{w64}
 use mir.Val.{SFits}
 use Rattle.numbers.proofs.Tests.{cond-cases}
 use Rattle.numbers.proofs.Magnitudes.{natAbs→fits}
 use lib.IntN.{pos, negsuc, _-ℤ_, natAbs}
+use Rattle.table.proofs.Signs.{signed-high}
 use Rattle.table.specs.Records.{signed, recordSize, wordAt, xAt, yAt}
-
-pub signed-low : (w : ℕ) → w < 0x8000_0000 → signed w ≡ pos w
-unfolding signed
-signed-low w h = rw (lt-ltb w 0x8000_0000 h)
-
-pub signed-high : (w : ℕ) → 0x8000_0000 ≤ w → signed w ≡ negsuc (0xffff_ffff - w)
-unfolding signed
-signed-high w h = rw (le-ltb w 0x8000_0000 h)
 
 -- The upper half stands for numbers 2^32 less.
 pub less-high : (w : ℕ) → 0x8000_0000 ≤ w → w < 0x1_0000_0000 → pos w -ℤ pos 0x1_0000_0000 ≡ signed w

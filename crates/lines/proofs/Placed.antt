@@ -1,16 +1,12 @@
 -- Bytes written at a place, one run behind the other.
 -- Assumes nothing.
-use mathlib.Core.Path.{_≡_, sym, ap, _∙_}
-use Prim.Native.Nat.{ℕ, suc, _+_}
+use mathlib.Core.Path.{_≡_, sym, _∙_}
+use Prim.Native.Nat.{ℕ, _+_}
 use native.Mathlib.Omega.{arith}
-use mathlib.Core.List.{List, [], _∷_, _++_}
-use lib.ListN.{length, set, length-append}
+use mathlib.Core.List.{List, _++_}
+use lib.ListN.{length, length-append}
 use lib.Seq.{sets}
-
--- Two runs one behind the other.
-sets-++ : (l : List ℕ) (i : ℕ) (xs ys : List ℕ) → sets l i (xs ++ ys) ≡ sets (sets l i xs) (i + length xs) ys
-sets-++ l i [] ys = let e : i + 0 ≡ i = omega arith in rw e
-sets-++ l i (x ∷ xs) ys = sets-++ (set l i x) (suc i) xs ys ∙ ap (λ k. sets (sets (set l i x) (suc i) xs) k ys) (omega arith)
+use Rattle.numbers.proofs.Lists.{sets-++}
 
 -- `bytes` are written over t from `at` on: r is the place behind them, u the list after it
 pub record Put (t : List ℕ) (at : ℕ) (bytes : List ℕ) (r : ℕ) (u : List ℕ) : Type 0 where

@@ -4,27 +4,23 @@ use mathlib.Core.Path.{_≡_, refl, ap, _∙_}
 use Prim.Native.Nat.{ℕ, zero, suc, _+_, _*_, _≤_, _<_}
 use native.Mathlib.Nat.{mul-div-right, mul-suc, add-zero}
 use native.Mathlib.Omega.{arith}
-use mathlib.Core.Bool.{Bool, true, false, cond, _&&_}
+use mathlib.Core.Bool.{false}
 use mathlib.Core.List.{List, [], _++_}
-use mathlib.Core.Option.{Option, none, some, Option·map, orElse}
+use mathlib.Core.Option.{Option, none, some, orElse}
 use borrow.Author.Tests.{ne-eqb}
-use lib.Dec.{leb}
 use lib.ListN.{length, length-append}
 use Rattle.numbers.specs.Limits.{mostBytes}
 use Rattle.language.specs.Readings.{Reading}
-use Rattle.language.specs.Tables.{treeAt}
-use Rattle.rules.specs.Bounds.{withinBounds}
 use Rattle.table.specs.Records.{recordSize, byteAt}
 use Rattle.table.proofs.Alike.{Alike, Alike-left, kindAt-alike, auxAt-alike, xAt-alike, yAt-alike}
 use Rattle.table.proofs.Marks.{0<recordSize}
-use Rattle.answers.specs.Sections.{nodesAt, declarations, rows, nodeTrees}
-use Rattle.answers.specs.Check.{Refusal, refuse, unless, firstFault, checkFault}
+use Rattle.answers.specs.Check.{Refusal, refuse, checkFault}
 use Rattle.answers.specs.Answers.{Answer, Outcome, refused, done, outcome, readingOf, underChoice, boundsFault, roomFault, translation, newCount, translationFault, translateUnder, translate}
 use Rattle.answers.specs.Listing.{lineOf, linesOf, listingUnder, listingOf}
 use Rattle.answers.proofs.Faults.{none-orElse}
 use Rattle.answers.proofs.Passed.{checkFault≡none→Passed}
 use Rattle.answers.proofs.NewRecords.{length-translation}
-use Rattle.soundness.proofs.Numbered.{Refuses, none-numbered, some-numbered, checkFault-numbered}
+use Rattle.answers.proofs.Numbers.{upTo, upTo→1≤, Numbered, Numbered-orElse, Numbered-check, Numbered-bounds, Numbered-room}
 use Rattle.lines.specs.Pieces.{refusalText}
 use Rattle.listing.specs.Texts.{textFor, textOf}
 
@@ -49,35 +45,11 @@ linesOf-front xs ys (suc n) h =
 
 -- ---- a refusal's number is not 0
 
-orElse-numbered : (a b : Option Refusal) → Refuses a → Refuses b → Refuses (orElse a b)
-unfolding orElse
-orElse-numbered none b p q = q
-orElse-numbered (some x) b p q = p
-
-unless-numbered : (b : Bool) (p : ℕ) → Refuses (Option·map (λ n. record { number = n; at = p }) (unless 8 b))
-unfolding unless
-unless-numbered true p = none-numbered
-unless-numbered false p = some-numbered _ (omega arith)
-
-first-numbered : (fits : ℕ → Bool) (p k : ℕ) → Refuses (firstFault (λ n. unless 8 (fits n)) p k)
-unfolding firstFault
-first-numbered fits p zero = none-numbered
-first-numbered fits p (suc k) = orElse-numbered (firstFault (λ n. unless 8 (fits n)) p k) _ (first-numbered fits p k) (unless-numbered (fits k) (p + k))
-
-room-numbered : (b : Bool) → Refuses (cond b none (refuse 9 0))
-room-numbered true = none-numbered
-room-numbered false = some-numbered _ (omega arith)
-
-boundsFault-numbered : (table : List ℕ) → Refuses (boundsFault table)
-unfolding boundsFault
-boundsFault-numbered table = first-numbered (λ n. withinBounds (declarations table) (treeAt (nodeTrees table) n)) (nodesAt table) (length (rows table))
-
-translationFault-numbered : (table : List ℕ) (ρ : Reading) (room : ℕ) → Refuses (translationFault table ρ room)
-unfolding translationFault roomFault
+translationFault-numbered : (table : List ℕ) (ρ : Reading) (room : ℕ) → Numbered (upTo 9) (translationFault table ρ room)
+unfolding translationFault
 translationFault-numbered table ρ room =
-    orElse-numbered (checkFault table) (orElse (boundsFault table) (roomFault table ρ room)) (checkFault-numbered table)
-    (orElse-numbered (boundsFault table) (roomFault table ρ room) (boundsFault-numbered table)
-    (room-numbered (leb (recordSize * newCount table ρ) room && leb (recordSize * newCount table ρ) mostBytes)))
+    Numbered-orElse (upTo 9) _ _ (Numbered-check (upTo 9) tt tt tt tt tt tt table)
+    (Numbered-orElse (upTo 9) _ _ (Numbered-bounds (upTo 9) table tt) (Numbered-room (upTo 9) table ρ room tt))
 
 -- ---- the text
 
@@ -101,7 +73,7 @@ text-under table ρ lent e = go (translationFault table ρ mostBytes) refl
     go none h =
         let passed = checkFault≡none→Passed table (none-orElse (checkFault table) (orElse (boundsFault table) (roomFault table ρ mostBytes)) h .0) in
         rw (translateUnder, listingUnder, e, h) (text-done (translation table ρ) _ (newCount table ρ) (length-translation table ρ passed))
-    go (some r) h = rw (translateUnder, listingUnder, e, h) (text-refused r lent (translationFault-numbered table ρ mostBytes .positive r h))
+    go (some r) h = rw (translateUnder, listingUnder, e, h) (text-refused r lent (upTo→1≤ 9 {n = r .number} (rw h at (translationFault-numbered table ρ mostBytes))))
 
 -- The text for what a translation into 60,000 bytes gives is the listing.
 pub text-listed : (choice : ℕ) (table lent : List ℕ) → length lent ≡ mostBytes → textsOf (translate choice table lent) ≡ listingOf choice table

@@ -4,12 +4,11 @@ use mathlib.Core.Path.{_≡_, refl, sym, ap, _∙_}
 use mathlib.Core.Bool.{Bool, true, false, cond, not, _&&_, _||_}
 use mathlib.Core.List.{List}
 use mathlib.Core.Option.{Option, none, some, orElse}
-use Prim.Native.Nat.{ℕ, _+_, _-_, _*_, _/_, _%_, _^_, _≤_, _<_}
+use Prim.Native.Nat.{ℕ, _+_, _-_, _*_, _/_, _%_, _^_, _<_}
 use native.Mathlib.Omega.{arith}
 use borrow.Author.Tests.{ltb-true, le-ltb}
-use lib.Dec.{eqb, leb, ltb}
+use lib.Dec.{eqb, leb}
 use lib.IntN.{pos, natAbs}
-use lib.ListN.{getD}
 use Rattle.language.specs.Tables.{treeAt, freeIn}
 use Rattle.table.specs.Records.{recordSize, wordAt, kindAt, auxAt, xAt, yAt, signed}
 use Rattle.table.specs.Kinds.{Field, unused, anyNumber, truthValue, variableNumber, slotNumber, arrayNumber, nodeNumber, Kind, kindOf}

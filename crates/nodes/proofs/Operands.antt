@@ -1,28 +1,28 @@
 -- What the facts say of an operand is what document 01 says of the field.
 -- Assumes nothing.
 use mathlib.Core.Path.{_≡_, refl, sym, ap, _∙_}
-use mathlib.Core.Bool.{Bool, true, false, cond, not, _&&_, _||_}
+use mathlib.Core.Bool.{Bool, true, false, not, _&&_, _||_}
 use mathlib.Core.List.{List}
-use Prim.Native.Nat.{ℕ, zero, suc, _+_, _*_, _/_, _%_, _^_, _≤_, _<_}
+use Prim.Native.Nat.{ℕ, zero, suc, _+_, _/_, _%_, _^_, _≤_, _<_}
 use native.Mathlib.Omega.{arith}
 use borrow.Author.Tests.{ltb-true, lt-ltb, le-ltb, eq-eqb, ne-eqb}
 use native.Mathlib.Nat.{not-suc-le-zero, le-of-suc-le-suc}
 use lib.Dec.{eqb, leb, ltb}
-use lib.IntN.{pos, natAbs}
+use lib.IntN.{pos}
 use lib.ListN.{length, getD}
 use Rattle.language.specs.Syntax.{Sort, boolean, integer}
-use Rattle.language.specs.Tables.{treeAt, treeI, treeB, freeIn}
+use Rattle.language.specs.Tables.{treeAt, treeI, treeB}
 use Rattle.table.specs.Records.{kindAt, signed}
 use Rattle.table.specs.Kinds.{Field, unused, anyNumber, truthValue, variableNumber, slotNumber, arrayNumber, nodeNumber}
 use Rattle.table.proofs.Signs.{signed-low}
 use Rattle.kinds.specs.Entries.{tag, codeOf}
-use Rattle.answers.specs.Sections.{sortOfKind, variablesAt, variableCount, slotCount, arrayRecords, nodeCount, nodeTrees}
+use Rattle.answers.specs.Sections.{sortOfKind, variablesAt, variableCount, slotCount, arrayRecords, nodeTrees}
 use Rattle.answers.specs.Check.{sameSort, variableSort, arraySort, nodeSort, fieldAllowed, fieldNames, fieldTyped}
 use Rattle.answers.proofs.KindRows.{treeSort, FieldBelow, fieldFree}
 use Rattle.answers.proofs.NodeTrees.{free-integer, free-boolean, tree-sort}
-use Rattle.answers.proofs.SignedWords.{zero-word, bit-word, names-word, named-word, leb-same}
+use Rattle.answers.proofs.SignedWords.{zero-word, bit-word, names-word, leb-same}
 use Rattle.nodes.specs.Facts.{basesOf, limitsOf, placeOf, typed}
-use Rattle.nodes.specs.Known.{has, NodeFact, Known}
+use Rattle.nodes.specs.Known.{has, Known}
 use Rattle.nodes.proofs.SlotSets.{has-none, has-one}
 
 -- an operand's test against its limit, and its fact

@@ -1,6 +1,6 @@
 -- The facts before the first node: of the variables, slots and arrays of a table whose declarations are sound.
 -- Assumes nothing.
-use mathlib.Core.Path.{_≡_, refl, sym, ap, _∙_}
+use mathlib.Core.Path.{_≡_, refl, _∙_}
 use mathlib.Core.List.{List, [], _∷_}
 use Prim.Native.Nat.{ℕ, zero, suc, _+_, _*_, _^_, _≤_, _<_}
 use native.Mathlib.Nat.{not-suc-le-zero, le-of-suc-le-suc}
@@ -10,7 +10,7 @@ use lib.Seq.{getD-set-same, getD-set-other}
 use Rattle.table.specs.Records.{kindAt}
 use Rattle.kinds.specs.Entries.{tag}
 use Rattle.answers.specs.Sections.{sortOfKind, variablesAt, variableCount, slotCount, arrayRecords, nodeCount}
-use Rattle.answers.proofs.FirstFault.{first-none}
+use Rattle.answers.proofs.Faults.{none-firstFault}
 use Rattle.answers.proofs.SoundSections.{variable-kind, few-variables, few-slots, array-kind, array-no-fault, few-arrays}
 use Rattle.sections.specs.declared.Places.{Places}
 use Rattle.sections.proofs.Bounds.{nodes-section, section-short}
@@ -94,7 +94,7 @@ module _ (bs : List ℕ) where
           arrays = λ a h. array-at variables-few slots-few arrays-few a h ∙ kind-is-tag _ (array-kind bs a _ (array-no-fault bs (d .arrays) a h));
           variables = λ v h.
               variable-at variables-few slots-few arrays-few v h
-              ∙ kind-is-tag (kindAt bs (1 + v)) (variable-kind bs v (1 + v) (first-none _ _ (variableCount bs) (d .variables) v h));
+              ∙ kind-is-tag (kindAt bs (1 + v)) (variable-kind bs v (1 + v) (none-firstFault _ _ (variableCount bs) (d .variables) v h));
           nodes = λ m h. absurd (not-suc-le-zero h);
         }
 

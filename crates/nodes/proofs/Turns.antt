@@ -3,7 +3,7 @@
 use mathlib.Core.Path.{_≡_, refl, sym, ap, _∙_}
 use mathlib.Core.Bool.{Bool, true, false}
 use mathlib.Core.List.{List, [], _∷_, map}
-use mathlib.Core.Option.{Option, none, some, Option·map}
+use mathlib.Core.Option.{Option, none, some}
 use Prim.Native.Nat.{ℕ, zero, suc, _+_, _*_, _-_, _≤_, _<_}
 use mathlib.Core.Logic.{_⊎_, ⊎-elim}
 use native.Mathlib.Nat.{add-zero, not-suc-le-zero, le-of-suc-le-suc, eq-or-lt-of-le}
@@ -13,13 +13,12 @@ use borrow.Author.Tests.{lt-ltb}
 use lib.IntN.{natAbs}
 use lib.ListN.{length, getD, set, drop, length-drop, length-set}
 use lib.Seq.{getD-drop, drop-drop, getD-set-same, getD-set-other}
-use Rattle.table.specs.Records.{AR, recordSize, recordCount, wordAt, marked, kindAt, yAt, signed}
+use Rattle.table.specs.Records.{AR, recordSize, recordCount, wordAt, marked, yAt, signed}
 use Rattle.language.specs.Syntax.{boolean, integer}
 use Rattle.table.specs.Kinds.{Field, unused, anyNumber, truthValue, variableNumber, slotNumber, arrayNumber, nodeNumber, Kind, kinds, kindOf}
 use Rattle.kinds.specs.Entries.{codeOf, codeX, codeY, tagOf, rowOf}
 use Rattle.kinds.proofs.Columns.{row-within, at-row}
-use Rattle.answers.specs.Sections.{arraysFrom, arraysAt, arrayRecords, behindArray, nodesAt, nodeCount}
-use Rattle.answers.specs.Check.{Refusal, refuse, firstFault, nodeFault}
+use Rattle.answers.specs.Sections.{arraysFrom, arraysAt, arrayRecords, behindArray, nodeCount}
 use Rattle.answers.proofs.RunEnds.{arrays-on}
 use Rattle.nodes.specs.Facts.{basesOf, limitsOf, placeOf}
 use Rattle.nodes.specs.Known.{NodeFact, Known}
@@ -43,7 +42,7 @@ module _ (bs : List ℕ) where
     where
       go : (b : Bool) → marked bs AR p ≡ b → 0 < length {A = ℕ} (elim b [ true ↦ p ∷ arraysFrom bs k (behindArray bs p) | false ↦ [] ])
           → (marked bs AR p ≡ true) × (arraysFrom bs (suc k) p ≡ p ∷ arraysFrom bs (suc k - 1) (behindArray bs p))
-      go true e l = (e, arrays-on bs k p e ∙ ap (λ (j : ℕ). p ∷ arraysFrom bs j (behindArray bs p)) {x = k} {y = suc k - 1} (omega arith))
+      go true e l = (e, arrays-on bs (suc k) k p refl e ∙ ap (λ (j : ℕ). p ∷ arraysFrom bs j (behindArray bs p)) {x = k} {y = suc k - 1} (omega arith))
       go false e l = absurd (not-suc-le-zero l)
 
   module _ {a p : ℕ} (at : ArrayAt bs a p) (h : a < length (arrayRecords bs)) where

@@ -1,4 +1,5 @@
 pub mod Division
+pub mod Lists
 pub mod Magnitudes
 pub mod Naturals
 pub mod Order

@@ -34,6 +34,15 @@ pub &&-snd : (a b : Bool) → T (a && b) → T b
 &&-snd true b t = t
 &&-snd false b t = absurd t
 
+-- The same of tests that are true.
+pub and-left : (a b : Bool) → (a && b) ≡ true → a ≡ true
+and-left true b e = refl
+and-left false b e = e
+
+pub and-right : (a b : Bool) → (a && b) ≡ true → b ≡ true
+and-right true b e = e
+and-right false b e = cc
+
 -- Two tests that pass together are the same.
 pub T-iff : (a b : Bool) → (T a → T b) → (T b → T a) → a ≡ b
 T-iff true true f g = refl

@@ -16,8 +16,9 @@ use mir.Facts.{toZ-ofZ}
 use Rattle.numbers.specs.Limits.{limit}
 use Rattle.numbers.specs.Whole.{eqZ, quotient, withinLimit}
 use Rattle.numbers.proofs.Tests.{T-iff}
-use Rattle.numbers.proofs.Parts.{up, dn, +-parts, up-neg, dn-neg, natAbs-parts, ≤→parts}
-use Rattle.numbers.proofs.Division.{natAbs-neg, natAbs-quotient-≤}
+use Rattle.numbers.proofs.Parts.{up, dn, +-parts, up-neg, dn-neg, ≤→parts}
+use Rattle.numbers.proofs.Division.{natAbs-quotient-≤}
+use Rattle.numbers.proofs.Magnitudes.{natAbs-*, natAbs→fits}
 
 -- What fits 32 bits fits 64.
 pub widens : (z : ℤ) → SFits w32 z → SFits w64 z
@@ -66,11 +67,6 @@ pub natAbs-fits : (z : ℤ) → SFits w32 z → natAbs z ≤ 2 ^ 31
 natAbs-fits (pos n) h = omega (arith, h .sfits)
 natAbs-fits (negsuc n) h = h .sfits
 
--- A magnitude below 2 ^ 63 fits 64 bits.
-pub natAbs→fits : (z : ℤ) → natAbs z < 2 ^ 63 → SFits w64 z
-natAbs→fits (pos n) h = record { sfits = h }
-natAbs→fits (negsuc n) h = record { sfits = omega arith }
-
 pub +-fits : (a b : ℤ) → SFits w32 a → SFits w32 b → SFits w64 (a +ℤ b)
 +-fits a b p q =
     difference-fits (a +ℤ b) (up a + up b) (dn a + dn b) (+-parts a b) (omega (arith, up-fits a p, up-fits b q)) (omega (arith, dn-fits a p, dn-fits b q))
@@ -82,21 +78,6 @@ minus-fits a b p q =
 
 pub negation-fits : (a : ℤ) → SFits w32 a → SFits w64 (pos 0 -ℤ a)
 negation-fits a p = minus-fits (pos 0) a (record { sfits = omega arith }) p
-
--- A sum has no greater magnitude than its parts together.
-pub natAbs-+ : (a b : ℤ) → natAbs (a +ℤ b) ≤ natAbs a + natAbs b
-natAbs-+ a b = by-sign (a +ℤ b) (+-parts a b)
-  where
-    by-sign : (z : ℤ) → up z + (dn a + dn b) ≡ dn z + (up a + up b) → natAbs z ≤ natAbs a + natAbs b
-    by-sign (pos n) e = omega (arith, e, natAbs-parts a, natAbs-parts b)
-    by-sign (negsuc n) e = omega (arith, e, natAbs-parts a, natAbs-parts b)
-
--- The magnitude of a product is the product of the magnitudes.
-pub natAbs-* : (a b : ℤ) → natAbs (a *ℤ b) ≡ natAbs a * natAbs b
-natAbs-* (pos a) (pos b) = refl
-natAbs-* (pos a) (negsuc b) = natAbs-neg (pos (a * suc b))
-natAbs-* (negsuc a) (pos b) = natAbs-neg (pos (suc a * b))
-natAbs-* (negsuc a) (negsuc b) = refl
 
 pub *-fits : (a b : ℤ) → SFits w32 a → SFits w32 b → SFits w64 (a *ℤ b)
 *-fits a b p q = natAbs→fits (a *ℤ b) (rw natAbs-* (omega (arith, mul-le-mul (natAbs-fits a p) (natAbs-fits b q))))

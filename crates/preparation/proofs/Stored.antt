@@ -1,4 +1,4 @@
--- A list that is stored to from its front on, one element after the other.
+-- What is stored from the front of a list on: a whole table, and the places of its sections.
 -- Assumes nothing.
 use mathlib.Core.Path.{_≡_, sym, ap, ap₂, _∙_}
 use mathlib.Core.Logic.{⊎-elim}
@@ -8,10 +8,11 @@ use native.Mathlib.Omega.{arith}
 use mathlib.Core.List.{List, [], _∷_, _++_}
 use borrow.Author.Tests.{lt-ltb}
 use lib.Dec.{ltb}
-use lib.ListN.{length, getD, set, replicate, length-set, length-append, length-replicate, getD-replicate, List·getD-append, List·getD-eq-default}
-use lib.Seq.{getD-set-same, getD-set-other, getD-append-add, ext-getD}
+use lib.ListN.{length, getD, set, replicate, length-append, length-replicate, List·getD-append, List·getD-eq-default}
+use lib.Seq.{getD-append-add, ext-getD}
 use Rattle.numbers.specs.Limits.{mostBytes, mostArrays}
 use Rattle.numbers.proofs.Naturals.{lt-or-ge}
+use Rattle.numbers.proofs.Lists.{Filled, filled-more, getD-replicate-same}
 use Rattle.table.specs.Records.{recordCount}
 use Rattle.answers.specs.Sections.{slotsAt, arraysAt, nodesAt, slotCount, arrayRecords, nodeCount, behindArray}
 use Rattle.layout.specs.Passed.{Passed}
@@ -20,32 +21,8 @@ use Rattle.layout.specs.declared.Layout.{Layout}
 use Rattle.layout.proofs.Order.{behind-≤, ordered, laid}
 use Rattle.preparation.specs.Prepared.{padded, PlacesOf}
 
--- the first i of n elements are f 0, f 1, .., and those behind are 0
-pub record Stored (f : ℕ → ℕ) (n : ℕ) (xs : List ℕ) (i : ℕ) : Type 0 where
-  pub sized : length xs ≡ n
-  pub before : (k : ℕ) → k < i → getD xs k 0 ≡ f k
-  pub behind : (k : ℕ) → i ≤ k → getD xs k 0 ≡ 0
-
-zeros : (n k : ℕ) → _≡_ {A = ℕ} (getD (replicate n 0) k 0) 0
-zeros n k = ⊎-elim (λ h. getD-replicate {A = ℕ} n k 0 0 h) (λ h. List·getD-eq-default (replicate n 0) 0 {n = k} (rw length-replicate h)) (lt-or-ge k n)
-
-module _ (f : ℕ → ℕ) {n : ℕ} where
-  pub stored-none : {xs : List ℕ} → xs ≡ replicate n 0 → Stored f n xs 0
-  stored-none e = rw e (record { sized = length-replicate {A = ℕ} n 0; before = λ k h. absurd (omega arith); behind = λ k h. zeros n k })
-
-  pub stored-more : {xs : List ℕ} {i v : ℕ} → Stored f n xs i → i < n → v ≡ f i → Stored f n (set xs i v) (i + 1)
-  stored-more {xs} {i} {v} s h e =
-      record {
-        sized = length-set xs i v ∙ s .sized;
-        before = λ k l. ⊎-elim (λ m. getD-set-other xs i k v 0 (λ z. omega arith) ∙ s .before k m) (λ m. last k (omega arith)) (lt-or-ge k i);
-        behind = λ k l. getD-set-other xs i k v 0 (λ z. omega arith) ∙ s .behind k (omega arith);
-      }
-    where
-      last : (k : ℕ) → k ≡ i → getD (set xs i v) k 0 ≡ f k
-      last k z = rw z (getD-set-same xs i v 0 (omega (arith, s .sized)) ∙ e)
-
 -- A table that is stored whole is padded.
-pub stored-padded : (bs : List ℕ) {xs : List ℕ} {i : ℕ} → Stored (λ k. getD bs k 0) mostBytes xs i → i ≡ length bs → length bs ≤ mostBytes → xs ≡ padded bs
+pub stored-padded : (bs : List ℕ) {xs : List ℕ} {i : ℕ} → Filled 0 mostBytes (λ k. getD bs k 0) xs i → i ≡ length bs → length bs ≤ mostBytes → xs ≡ padded bs
 unfolding padded
 stored-padded bs {xs} {i} s e h = ext-getD 0 xs (bs ++ zeros-behind) (s .sized ∙ omega (arith, length-append bs zeros-behind, length-replicate {A = ℕ} (mostBytes - length bs) 0)) (λ k l. at k)
   where
@@ -55,10 +32,10 @@ stored-padded bs {xs} {i} s e h = ext-getD 0 xs (bs ++ zeros-behind) (s .sized �
     past : (k : ℕ) → length bs ≤ k → getD (bs ++ zeros-behind) k 0 ≡ 0
     past k l =
         let q : k ≡ length bs + (k - length bs) = omega arith in
-        ap (λ j. getD (bs ++ zeros-behind) j 0) q ∙ getD-append-add bs zeros-behind (k - length bs) 0 ∙ zeros (mostBytes - length bs) (k - length bs)
+        ap (λ j. getD (bs ++ zeros-behind) j 0) q ∙ getD-append-add bs zeros-behind (k - length bs) 0 ∙ getD-replicate-same (mostBytes - length bs) (k - length bs) 0
 
     at : (k : ℕ) → getD xs k 0 ≡ getD (bs ++ zeros-behind) k 0
-    at k = ⊎-elim (λ l. s .before k (omega arith) ∙ sym (List·getD-append bs zeros-behind 0 k l)) (λ l. s .behind k (omega arith) ∙ sym (past k l)) (lt-or-ge k (length bs))
+    at k = ⊎-elim (λ l. s .before k (omega arith) ∙ sym (List·getD-append bs zeros-behind 0 k l)) (λ l. s .after k (omega arith) ∙ sym (past k l)) (lt-or-ge k (length bs))
 
 -- ---- places
 
@@ -70,7 +47,7 @@ pub place-array : (bs : List ℕ) (k : ℕ) → k < mostArrays → getD (arrayRe
 unfolding placeAt
 place-array bs k h = rw (lt-ltb k mostArrays h)
 
-pub stored-places : (bs : List ℕ) {xs : List ℕ} → Stored (placeAt bs) 69 xs 69 → PlacesOf bs xs
+pub stored-places : (bs : List ℕ) {xs : List ℕ} → Filled 0 69 (placeAt bs) xs 69 → PlacesOf bs xs
 unfolding placeAt
 stored-places bs s =
     record {
@@ -93,13 +70,13 @@ module _ (bs : List ℕ) (p : Passed bs) where
       inside h = omega (arith, behind-≤ bs (recordCount bs) (arraysAt bs) a h, ordered bs p)
 
   -- Behind the arrays come where the other sections stand.
-  pub places-laid : {at : Layout} {xs : List ℕ} {i : ℕ} → at ≡ layoutOf bs → Stored (placeAt bs) 69 xs i → i ≡ mostArrays
+  pub places-laid : {at : Layout} {xs : List ℕ} {i : ℕ} → at ≡ layoutOf bs → Filled 0 69 (placeAt bs) xs i → i ≡ mostArrays
       → PlacesOf bs (set (set (set (set (set xs 64 (at .slots)) 65 (at .arrays - at .slots)) 66 (at .tally)) 67 (at .nodes)) 68 (at .constraints - at .nodes))
   unfolding placeAt slotCount nodeCount
   places-laid e s q =
       let l = laid bs p e in
-      let s65 = stored-more (placeAt bs) (rw q at s) (omega arith) (l .slots) in
-      let s66 = stored-more (placeAt bs) s65 (omega arith) (ap₂ _-_ (l .arrays) (l .slots)) in
-      let s67 = stored-more (placeAt bs) s66 (omega arith) (l .tally) in
-      let s68 = stored-more (placeAt bs) s67 (omega arith) (l .nodes) in
-      stored-places bs (stored-more (placeAt bs) s68 (omega arith) (ap₂ _-_ (l .constraints) (l .nodes)))
+      let s65 = filled-more 0 69 (placeAt bs) (rw q at s) (omega arith) (l .slots) in
+      let s66 = filled-more 0 69 (placeAt bs) s65 (omega arith) (ap₂ _-_ (l .arrays) (l .slots)) in
+      let s67 = filled-more 0 69 (placeAt bs) s66 (omega arith) (l .tally) in
+      let s68 = filled-more 0 69 (placeAt bs) s67 (omega arith) (l .nodes) in
+      stored-places bs (filled-more 0 69 (placeAt bs) s68 (omega arith) (ap₂ _-_ (l .constraints) (l .nodes)))

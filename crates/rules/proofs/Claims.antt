@@ -1,8 +1,8 @@
 -- What is shown of trees: the claims that the lemmas of the rules establish and that the theorem about tables puts together.
 -- Assumes nothing.
 use mathlib.Core.Path.{_≡_}
-use mathlib.Core.Bool.{Bool, true, false}
-use mathlib.Core.Option.{Option, none, some}
+use mathlib.Core.Bool.{Bool}
+use mathlib.Core.Option.{some}
 use lib.Dec.{T}
 use lib.IntN.{ℤ}
 use Rattle.numbers.specs.Whole.{withinLimit}

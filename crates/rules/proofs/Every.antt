@@ -25,3 +25,8 @@ All-getD P (x ∷ xs) d h p (suc k) = All-getD P xs d (h .1) p k
 pub All-map : {A : Type 0} {P Q : A → Type 0} → ((x : A) → P x → Q x) → (xs : List A) → All P xs → All Q xs
 All-map f [] h = tt
 All-map f (x ∷ xs) h = (f x (h .0), All-map f xs (h .1))
+
+-- A property of the first element, and of those behind it.
+infixr 20 _⸴_
+pub _⸴_ : {A B : Type 0} → A → B → A × B
+a ⸴ b = (a, b)

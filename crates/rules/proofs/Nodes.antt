@@ -90,7 +90,7 @@ IsNode→HasTree-bool {rows} {k} n =
 -- ---- well formed tables
 
 -- A row that fits behind others names only nodes among them.
-RowFits→NamesBelow : (Γ : Declarations) (before : List Row) (r : Row) → RowFits Γ before r → NamesBelow (length before) r
+pub RowFits→NamesBelow : (Γ : Declarations) (before : List Row) (r : Row) → RowFits Γ before r → NamesBelow (length before) r
 RowFits→NamesBelow Γ before (constantRow z) h = tt
 RowFits→NamesBelow Γ before (variableRow v) h = tt
 RowFits→NamesBelow Γ before (slotRow s) h = tt

@@ -4,7 +4,7 @@
 use mathlib.Core.Path.{_≡_, ap}
 use Prim.Native.Nat.{ℕ}
 use mathlib.Core.List.{List}
-use lib.ListN.{length, getD}
+use lib.ListN.{length}
 use Rattle.language.specs.Syntax.{boolean, integer, Declarations}
 use Rattle.language.specs.Readings.{Reading}
 use Rattle.language.specs.Tables.{Row, asI, asB, treeI, treeB, treesAfter, trees}

@@ -1,9 +1,9 @@
 -- What the walks over a table's records keep.
 -- Assumes nothing.
-use mathlib.Core.Path.{_≡_, refl, sym, _∙_, ap}
+use mathlib.Core.Path.{_≡_, sym, _∙_, ap}
 use mathlib.Core.Bool.{true, false}
-use mathlib.Core.List.{List, [], _∷_}
-use Prim.Native.Nat.{ℕ, zero, suc, _+_, _-_, _≤_, _<_}
+use mathlib.Core.List.{List}
+use Prim.Native.Nat.{ℕ, suc, _+_, _-_, _≤_, _<_}
 use native.Mathlib.Nat.{le-refl, add-zero}
 use native.Mathlib.Numerals.{add-one}
 use native.Mathlib.Omega.{arith}
@@ -12,7 +12,6 @@ use lib.ListN.{length}
 use Rattle.table.specs.Records.{Mark, AR, recordCount, marked, yAt}
 use Rattle.answers.specs.Sections.{runEnd, endOf, behindArray, arraysFrom, arraysEnd}
 use Rattle.answers.proofs.RunEnds.{run-on, run-stop, arrays-on, arrays-end-on, arrays-stop, arrays-end-stop}
-use Rattle.sections.specs.declared.ArrayRun.{ArrayRun}
 use Rattle.sections.specs.Places.{arrayRunOf}
 
 -- a walk over one mark stands at p: the run ends where it ends from p on
@@ -30,7 +29,7 @@ module _ {bs : List ℕ} {m : Mark} {from : ℕ} where
       record {
         behind = omega arith;
         same =
-            r .same ∙ ap (λ (k : ℕ). runEnd bs m k p) (fuel (r .behind)) ∙ run-on bs m (recordCount bs + from - (p + 1)) p e
+            r .same ∙ run-on bs m _ (recordCount bs + from - (p + 1)) p (fuel (r .behind)) e
             ∙ ap (runEnd bs m (recordCount bs + from - (p + 1))) (sym (add-one p));
       }
     where
@@ -61,10 +60,9 @@ module _ {bs : List ℕ} {from : ℕ} where
   arrays-go-on {p} {passed} {next} a h e n =
       record {
         behind = omega (arith, n, a .behind);
-        end = a .end ∙ ap (λ (k : ℕ). arraysEnd bs k p) fuel ∙ arrays-end-on bs (recordCount bs - (passed + 1)) p e ∙ ap (arraysEnd bs (recordCount bs - (passed + 1))) here;
+        end = a .end ∙ arrays-end-on bs _ (recordCount bs - (passed + 1)) p fuel e ∙ ap (arraysEnd bs (recordCount bs - (passed + 1))) here;
         count =
-            a .count ∙ ap (λ (k : ℕ). passed + length (arraysFrom bs k p)) fuel
-            ∙ ap (λ (l : List ℕ). passed + length l) (arrays-on bs (recordCount bs - (passed + 1)) p e)
+            a .count ∙ ap (λ (l : List ℕ). passed + length l) (arrays-on bs _ (recordCount bs - (passed + 1)) p fuel e)
             ∙ ap (λ (q : ℕ). passed + suc (length (arraysFrom bs (recordCount bs - (passed + 1)) q))) here
             ∙ omega arith;
       }
@@ -80,7 +78,7 @@ module _ {bs : List ℕ} {from : ℕ} where
   arrays-end {p} {passed} a e = λ i. record { end = end i; count = count i }
     where
       end : p ≡ arraysEnd bs (recordCount bs) from
-      end = sym (a .end ∙ arrays-end-stop bs p e (recordCount bs - passed))
+      end = sym (a .end ∙ arrays-end-stop bs (recordCount bs - passed) p e)
 
       count : passed ≡ length (arraysFrom bs (recordCount bs) from)
-      count = sym (a .count ∙ ap (λ (l : List ℕ). passed + length l) (arrays-stop bs p e (recordCount bs - passed)) ∙ add-zero passed)
+      count = sym (a .count ∙ ap (λ (l : List ℕ). passed + length l) (arrays-stop bs (recordCount bs - passed) p e) ∙ add-zero passed)

@@ -1,7 +1,7 @@
 -- An answer of the check tells its fault: the public check's promise, read as what the calls behind it rely on.
 -- Assumes nothing.
 use mathlib.Core.Path.{_≡_, refl, ap}
-use Prim.Native.Nat.{ℕ}
+use Prim.Native.Nat.{ℕ, _≤_}
 use native.Mathlib.Omega.{arith}
 use mathlib.Core.Bool.{false}
 use mathlib.Core.List.{List}
@@ -9,30 +9,30 @@ use mathlib.Core.Option.{Option, none, some}
 use Rattle.answers.specs.Check.{Refusal, checkFault}
 use Rattle.answers.specs.Answers as Answers
 use Rattle.answers.specs.Answers.{Answer, done, refused}
+use Rattle.answers.proofs.Numbers.{upTo, upTo→1≤, Numbered, Numbered-check}
 use Rattle.verdict.specs.declared.Check.{Check}
 use Rattle.verdict.specs.declared.Check.the-variants.{Sound, BadLength, Misplaced, NotAllowed, NamesNothing, WrongType, OpenConstraint}
 use Rattle.verdict.specs.Results.{refusalOf, answerOf}
-use Rattle.soundness.proofs.Numbered.{Refuses, checkFault-numbered, none-numbered, some-numbered}
 
-refusalOf-numbered : (c : Check) → Refuses (refusalOf c)
-refusalOf-numbered Sound = none-numbered
-refusalOf-numbered BadLength = some-numbered _ (omega arith)
-refusalOf-numbered (Misplaced k) = some-numbered _ (omega arith)
-refusalOf-numbered (NotAllowed k) = some-numbered _ (omega arith)
-refusalOf-numbered (NamesNothing k) = some-numbered _ (omega arith)
-refusalOf-numbered (WrongType k) = some-numbered _ (omega arith)
-refusalOf-numbered (OpenConstraint k) = some-numbered _ (omega arith)
+refusalOf-numbered : (c : Check) → Numbered (upTo 6) (refusalOf c)
+refusalOf-numbered Sound = tt
+refusalOf-numbered BadLength = tt
+refusalOf-numbered (Misplaced k) = tt
+refusalOf-numbered (NotAllowed k) = tt
+refusalOf-numbered (NamesNothing k) = tt
+refusalOf-numbered (WrongType k) = tt
+refusalOf-numbered (OpenConstraint k) = tt
 
 -- what the check answers for a fault
 abbrev told : Option Refusal → Answer
 told o = elim o [ none ↦ done 0 0 false | some r ↦ refused r ]
 
 -- Answers that are the same tell the same fault.
-told-injective : (o p : Option Refusal) → Refuses o → Refuses p → told o ≡ told p → o ≡ p
+told-injective : (o p : Option Refusal) → Numbered (upTo 6) o → Numbered (upTo 6) p → told o ≡ told p → o ≡ p
 unfolding done refused
 told-injective none none a b e = refl
-told-injective none (some r) a b e = absurd (omega (arith, b .positive r refl, ap (λ (x : Answer). x .number) e))
-told-injective (some r) none a b e = absurd (omega (arith, a .positive r refl, ap (λ (x : Answer). x .number) e))
+told-injective none (some r) a b e = absurd (omega (arith, upTo→1≤ 6 {n = r .number} b, ap (λ (x : Answer). x .number) e))
+told-injective (some r) none a b e = absurd (omega (arith, upTo→1≤ 6 {n = r .number} a, ap (λ (x : Answer). x .number) e))
 told-injective (some r) (some q) a b e = same r q (ap (λ (x : Answer). x .number) e) (ap (λ (x : Answer). x .at) e)
   where
     same : (r q : Refusal) → r .number ≡ q .number → r .at ≡ q .at → some r ≡ some q
@@ -41,4 +41,4 @@ told-injective (some r) (some q) a b e = same r q (ap (λ (x : Answer). x .numbe
 -- The check's answer tells the table's fault.
 pub answered→fault : (bs : List ℕ) (c : Check) → answerOf c ≡ Answers.check bs → refusalOf c ≡ checkFault bs
 unfolding answerOf Answers.check
-answered→fault bs c e = told-injective (refusalOf c) (checkFault bs) (refusalOf-numbered c) (checkFault-numbered bs) e
+answered→fault bs c e = told-injective (refusalOf c) (checkFault bs) (refusalOf-numbered c) (Numbered-check (upTo 6) tt tt tt tt tt tt bs) e

@@ -1,6 +1,6 @@
 -- The steps of each node of a checked table from those kept of the nodes before it.
 -- Assumes nothing.
-use mathlib.Core.Path.{_≡_, refl, sym, ap, _∙_}
+use mathlib.Core.Path.{_≡_, refl, ap, _∙_}
 use mathlib.Core.Logic.{⊎-elim}
 use Prim.Native.Nat.{ℕ, _+_, _≤_, _<_}
 use native.Mathlib.Omega.{arith}
@@ -9,9 +9,10 @@ use mathlib.Core.Bool.{false}
 use mathlib.Core.List.{List, map}
 use mathlib.Core.Option.{none, some}
 use lib.IntN.{ℤ, natAbs}
-use lib.ListN.{length, getD, set, replicate, length-set, length-replicate, getD-replicate, List·getD-eq-default}
+use lib.ListN.{getD, set, replicate, length-set, length-replicate}
 use lib.Seq.{getD-set-same, getD-set-other}
 use Rattle.numbers.proofs.Naturals.{lt-or-ge}
+use Rattle.numbers.proofs.Lists.{getD-map, getD-replicate-same}
 use Rattle.language.specs.Syntax.{boolean, integer}
 use Rattle.language.specs.Tables.{truthRow, Tree, whole, bool, asI, asB, treeAt, treeI, treeB, fill, trees}
 use Rattle.language.specs.Meaning.{slotAt, count}
@@ -29,8 +30,7 @@ use Rattle.answers.proofs.NodeTrees.{row-some, tree-sort}
 use Rattle.answers.proofs.Declared.{length-rows, getD-rows}
 use Rattle.answers.proofs.Passed.{checkFault≡none→Passed}
 use Rattle.layout.proofs.Checked.{checked}
-use Rattle.layout.proofs.Numbered.{getD-map-at}
-use Rattle.steps.specs.Capped.{pastBudgets, capped}
+use Rattle.steps.specs.Capped.{capped}
 use Rattle.steps.specs.Shapes.{shapeOf}
 use Rattle.steps.specs.Kept.{Kept}
 use Rattle.steps.proofs.Caps.{capped-≤}
@@ -101,7 +101,7 @@ module _ (bs : List ℕ) where
 
     shape-at : {k : Kind} → kindOf (kindAt bs (nodesAt bs + n)) ≡ some k → getD (map shapeOf kinds) (kindAt bs (nodesAt bs + n)) 0 ≡ shapeOf (some k)
     unfolding kindOf kinds
-    shape-at q = getD-map-at shapeOf kinds (kindAt bs (nodesAt bs + n)) none 0 (checked bs sound .known-kinds n h) ∙ ap shapeOf q
+    shape-at q = getD-map shapeOf kinds (kindAt bs (nodesAt bs + n)) none 0 (checked bs sound .known-kinds n h) ∙ ap shapeOf q
 
     -- What the shape of a node's kind makes of the kept steps is the node's steps.
     pub node-capped : {kind x y shape a b : ℕ} {shapes : List ℕ} → kind ≡ kindAt bs p → x ≡ natAbs (xAt bs p) → y ≡ natAbs (yAt bs p) → shapes ≡ map shapeOf kinds
@@ -117,10 +117,7 @@ module _ (bs : List ℕ) where
   -- ---- the pass
 
   pub kept-none : {costs : List ℕ} → costs ≡ replicate 5_000 0 → Kept bs 0 costs
-  kept-none e = rw e (record { sized = length-replicate {A = ℕ} 5_000 0; before = λ k h. absurd (omega arith); small = λ k. omega (arith, zeros k) })
-    where
-      zeros : (k : ℕ) → _≡_ {A = ℕ} (getD (replicate 5_000 0) k 0) 0
-      zeros k = ⊎-elim (λ h. getD-replicate {A = ℕ} 5_000 k 0 0 h) (λ h. List·getD-eq-default (replicate 5_000 0) 0 {n = k} (rw length-replicate h)) (lt-or-ge k 5_000)
+  kept-none e = rw e (record { sized = length-replicate {A = ℕ} 5_000 0; before = λ k h. absurd (omega arith); small = λ k. omega (arith, getD-replicate-same {A = ℕ} 5_000 k 0) })
 
   module _ {n : ℕ} {costs : List ℕ} (w : Kept bs n costs) (h : n < 5_000) {v : ℕ} (e : v ≡ capped (cost (declarations bs) (treeAt (nodeTrees bs) n))) where
     set-here : (k : ℕ) → k ≡ n → getD (set costs n v) k 0 ≡ v

@@ -1,6 +1,6 @@
 -- The steps of a node by its kind's shape.
 -- Assumes nothing.
-use mathlib.Core.Path.{_≡_, refl, sym, ap, _∙_}
+use mathlib.Core.Path.{_≡_, refl}
 use Prim.Native.Nat.{ℕ, zero, suc, _+_, _*_}
 use mathlib.Core.List.{List}
 use mathlib.Core.Option.{Option, none, some}
@@ -10,7 +10,7 @@ use Rattle.language.specs.Tables.{Tree, treeI, treeB, fill}
 use Rattle.language.specs.Meaning.{slotAt, count}
 use Rattle.language.specs.Steps.{costI, costB, cost}
 use Rattle.rules.specs.Soundness.{All}
-use Rattle.rules.proofs.Every.{All-getD}
+use Rattle.rules.proofs.Every.{All-getD, _⸴_}
 use Rattle.table.specs.Kinds.{Field, unused, anyNumber, truthValue, variableNumber, slotNumber, arrayNumber, nodeNumber, Kind, kinds, kindOf}
 use Rattle.steps.specs.Capped.{capped}
 use Rattle.steps.specs.Shapes.{namesNode, namesSlot, shapeOf}
@@ -78,10 +78,6 @@ module _ (Γ : Declarations) (ts : List Tree) (z : ℤ) where
 
   abbrev values : ℕ
   values = count (slotAt Γ (natAbs z))
-
-infixr 20 _⸴_
-_⸴_ : {A B : Type 0} → A → B → A × B
-a ⸴ b = (a, b)
 
 kinds-steps : All EntrySteps kinds
 unfolding kinds shapeOf namesNode namesSlot stepsBy cost costI costB fill

@@ -1,6 +1,6 @@
 -- How many values a slot has, as the code counts them.
 -- Assumes nothing.
-use mathlib.Core.Path.{_≡_, refl, ap, _∙_}
+use mathlib.Core.Path.{_≡_, ap, _∙_}
 use mathlib.Core.Logic.{⊎-elim}
 use mathlib.Core.Bool.{Bool, true, false}
 use mathlib.Core.List.{List}
@@ -9,7 +9,7 @@ use Prim.Native.Nat.{ℕ, _+_, _≤_, _<_}
 use native.Mathlib.Omega.{arith}
 use native.Mathlib.Numerals.{add-one}
 use lib.Dec.{T, leb→le}
-use lib.IntN.{ℤ, pos, _-ℤ_, natAbs}
+use lib.IntN.{ℤ, _-ℤ_, natAbs}
 use lib.Signed.{leZ, nonNeg}
 use mir.Syntax.{w64}
 use mir.Val.{Fits, SFits}
@@ -23,7 +23,7 @@ use Rattle.answers.specs.Sections.{slotsAt, slotCount, slotOf, declarations}
 use Rattle.answers.specs.Check.{slotFault, checkFault}
 use Rattle.answers.proofs.Faults.{none-unless}
 use Rattle.answers.proofs.Passed.{checkFault≡none→Passed}
-use Rattle.layout.proofs.Numbered.{slot-at, no-slot-at}
+use Rattle.answers.proofs.Declared.{slotAt-declarations, slotAt-past}
 
 module _ (low high : ℤ) (l : natAbs low ≤ 0x8000_0000) (h : natAbs high ≤ 0x8000_0000) where
   width : held high -ℤ held low ≡ high -ℤ low
@@ -58,11 +58,11 @@ module _ (low high : ℤ) (l : natAbs low ≤ 0x8000_0000) (h : natAbs high ≤ 
 module _ (bs : List ℕ) where
   pub slot-values : (s : ℕ) {p : ℕ} {r : ℕ} {low high : ℤ} → s < slotCount bs → p ≡ slotsAt bs + s → record { low = low; high = high } ≡ slotOf bs p
       → r ≡ count (record { low = low; high = high }) → r ≡ count (slotAt (declarations bs) s)
-  slot-values s h e f q = q ∙ rw (f, e, slot-at bs s h)
+  slot-values s h e f q = q ∙ rw (f, e, slotAt-declarations bs s h)
 
   pub no-slot : (s : ℕ) → slotCount bs ≤ s → 0 ≡ count (slotAt (declarations bs) s)
   unfolding count noSlot
-  no-slot s h = rw (no-slot-at bs s h)
+  no-slot s h = rw (slotAt-past bs s h)
 
   slotFault→few-values : (i p : ℕ) → slotFault bs i p ≡ none → count (slotOf bs p) ≤ mostSlotValues
   unfolding slotFault
@@ -72,6 +72,6 @@ module _ (bs : List ℕ) where
   pub few-values : checkFault bs ≡ none → (s : ℕ) → count (slotAt (declarations bs) s) ≤ mostSlotValues
   few-values e s =
       ⊎-elim
-      (λ h. rw (slot-at bs s h) (slotFault→few-values s (slotsAt bs + s) (checkFault≡none→Passed bs e .slots-passed s h)))
+      (λ h. rw (slotAt-declarations bs s h) (slotFault→few-values s (slotsAt bs + s) (checkFault≡none→Passed bs e .slots-passed s h)))
       (λ h. omega (arith, no-slot s h))
       (lt-or-ge s (slotCount bs))

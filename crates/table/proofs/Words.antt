@@ -1,27 +1,17 @@
 -- Words: a signed number of 32 bits is read back from the bytes that it is written as.
 -- Assumes nothing.
 use mathlib.Core.Path.{_≡_, ap, _∙_}
-use Prim.Native.Nat.{ℕ, _+_, _*_, _-_, _/_, _%_, _≤_, _<_}
+use Prim.Native.Nat.{ℕ, _+_, _*_, _-_, _/_, _%_, _<_}
 use native.Mathlib.Nat.{div-div-eq-div-mul}
 use native.Mathlib.Omega.{arith}
-use lib.Dec.{ltb, ltb→lt, nltb→le}
 use lib.IntN.{ℤ, pos, negsuc}
 use lib.Signed.{mag}
-use Rattle.numbers.proofs.Tests.{cond-cases}
 use Rattle.table.specs.Records.{signed, bitsOf}
 use Rattle.table.proofs.Signs.{signed-low, signed-high}
 
 -- z is a signed number of 32 bits
 abbrev pub InWord : ℤ → Type 0
 InWord z = mag z < 0x8000_0000
-
--- What 32 bits stand for is such a number.
-pub InWord-signed : (w : ℕ) → InWord (signed w)
-unfolding signed
-InWord-signed w = cond-cases InWord (ltb w 0x8000_0000) (λ t. ltb→lt w 0x8000_0000 t) (λ t. small w (nltb→le w 0x8000_0000 t))
-  where
-    small : (w : ℕ) → 0x8000_0000 ≤ w → 0xffff_ffff - w < 0x8000_0000
-    small w h = omega arith
 
 -- Its bits are 32,
 bitsOf-below : (z : ℤ) → InWord z → bitsOf z < 0x1_0000_0000

@@ -6,7 +6,7 @@ use native.Mathlib.Omega.{arith}
 use mathlib.Core.List.{List, [], _∷_}
 use lib.ListN.{length, getD, set, take, drop, length-drop}
 use lib.Seq.{sets, take-suc, getD-drop, length-take-le}
-use Rattle.translator.proofs.Stores.{sets-++}
+use Rattle.numbers.proofs.Lists.{sets-++}
 
 module _ (l s : List ℕ) (from : ℕ) where
   -- the bytes of s from `from` up to i, stored at the same places

@@ -11,12 +11,13 @@ use lib.Dec.{leb}
 use lib.ListN.{length, drop}
 use Rattle.numbers.specs.Limits.{mostBytes}
 use Rattle.language.specs.Readings.{Reading}
+use Rattle.numbers.proofs.Tests.{and-left, and-right}
 use Rattle.table.specs.Records.{recordSize}
 use Rattle.answers.specs.Check.{Refusal, refuse, firstFault, checkFault}
 use Rattle.answers.specs.Sections.{nodesAt, nodeCount, rows}
 use Rattle.answers.specs.Answers as Answers
 use Rattle.answers.specs.Answers.{Outcome, refused, done, outcome, readingOf, underChoice, boundsFault, newCount, roomFault, translation, translationFault, translateUnder}
-use Rattle.answers.proofs.FirstFault.{orElse-none, orElse-some}
+use Rattle.answers.proofs.Faults.{orElse-none, orElse-some}
 use Rattle.answers.proofs.SignedWords.{leb-same}
 use Rattle.answers.proofs.Declared.{length-rows}
 use Rattle.bounds.specs.declared.Bounds.{Bounds}
@@ -49,14 +50,6 @@ under-reading c table lent e q = rw (Answers.translate, underChoice, ← e) q
 pub within-twelfth : (n m : ℕ) → leb n (m / recordSize) ≡ leb (recordSize * n) m
 unfolding recordSize
 within-twelfth n m = leb-same n (m / 12) (12 * n) m (λ h. omega arith) (λ h. omega arith)
-
-and-left : (a b : Bool) → (a && b) ≡ true → a ≡ true
-and-left true b e = refl
-and-left false b e = e
-
-and-right : (a b : Bool) → (a && b) ≡ true → b ≡ true
-and-right true b e = e
-and-right false b e = cc
 
 -- Where there is room, the size is within the buffer and within 60,000 bytes.
 pub room-given : (records room : ℕ) {b : Bool} → b ≡ (leb (recordSize * records) room && leb (recordSize * records) mostBytes) → b ≡ true

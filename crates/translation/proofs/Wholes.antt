@@ -19,7 +19,7 @@ use Rattle.answers.proofs.NewRecords.{length-translation}
 use Rattle.layout.specs.Passed.{Passed}
 use Rattle.layout.proofs.Order.{ordered}
 use Rattle.translator.specs.Cells.{recordOf}
-use Rattle.translator.proofs.Stores.{sets-++}
+use Rattle.numbers.proofs.Lists.{sets-++}
 use Rattle.translation.specs.Fronts.{front}
 
 -- The records before the nodes: HD is one of them, and they are within the table.

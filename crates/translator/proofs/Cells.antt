@@ -12,9 +12,9 @@ use lib.Seq.{sets}
 use borrow.Author.Tests.{lt-ltb, le-ltb}
 use Rattle.table.specs.Records.{ND, recordSize, firstLetter, secondLetter, wordBytes}
 use Rattle.answers.specs.Sections.{listed}
-use Rattle.layout.proofs.Numbered.{length-listed}
+use Rattle.answers.proofs.Listed.{length-listed}
 use Rattle.translator.specs.Cells.{Cell, recordOf, cellBytes, cellsBytes, words, place, resolve, rowAt, rowsFrom}
-use Rattle.translator.proofs.Stores.{sets-++}
+use Rattle.numbers.proofs.Lists.{sets-++}
 
 -- ---- places
 
@@ -63,7 +63,7 @@ module _ (env rows : List ℕ) (base own from : ℕ) where
 
   length-written : (j : ℕ) → length (written j) ≡ recordSize * j
   unfolding rowsFrom
-  length-written j = length-cellsBytes (map (resolve env base own) (rowsFrom rows from j)) ∙ ap (λ k. recordSize * k) (length-map (rowsFrom rows from j) (resolve env base own) ∙ length-listed (λ i. rowAt rows (from + i)) j)
+  length-written j = length-cellsBytes (map (resolve env base own) (rowsFrom rows from j)) ∙ ap (λ k. recordSize * k) (length-map (rowsFrom rows from j) (resolve env base own) ∙ length-listed j (λ i. rowAt rows (from + i)))
 
   pub rows-more : (o : List ℕ) {out new : List ℕ} (at j : ℕ) {kind x y : ℕ} → out ≡ sets o at (written j) → new ≡ sets out (at + 12 * j) (recordOf 78 68 kind x y) → kind ≡ cond (eqb (getD rows (3 * (from + j)) 0) 0) own (getD rows (3 * (from + j)) 0) → x ≡ place env base (getD rows (3 * (from + j) + 1) 0) → y ≡ place env base (getD rows (3 * (from + j) + 2) 0) → new ≡ sets o at (written (j + 1))
   unfolding recordSize cellBytes resolve rowAt firstLetter secondLetter

@@ -13,7 +13,7 @@ use Rattle.rules.specs.Writing.{Translated, writeRule, nothingYet, ruleAfter, a
 use Rattle.table.specs.Records.{kindAt, xAt, yAt}
 use Rattle.answers.specs.Sections.{listed, nodesAt, nodeCount, constraintCount, rowOf, rows, constraints, declarations}
 use Rattle.answers.specs.Answers.{translated, newCount}
-use Rattle.layout.proofs.Numbered.{length-listed}
+use Rattle.answers.proofs.Listed.{length-listed}
 use Rattle.translator.specs.Cells.{fields, resolve, rowAt, rowsFrom}
 use Rattle.translator.specs.Plans.{ruleRows, planAt, planRows}
 use Rattle.translator.specs.Words.{nodeWords}
@@ -57,7 +57,7 @@ module _ (bs : List ℕ) (ρ : Reading) where
       (sym (length-map (writeRule (ruleAfter ρ (declarations bs) (state n) (rowOf bs p)) (length (state n .rows)) .rows) fields)
       ∙ ap length (node-writes n e h .rows)
       ∙ length-map (planRows ρ (kindAt bs p)) (resolve (nodeWords (declarations bs) (state n .firsts) (state n .seconds) (kindAt bs p) (xAt bs p) (yAt bs p)) (length (state n .rows)) (kindAt bs p))
-      ∙ length-listed (λ j. rowAt ruleRows (planAt ρ (kindAt bs p) 0 + j)) (planAt ρ (kindAt bs p) 1)))
+      ∙ length-listed (planAt ρ (kindAt bs p) 1) (λ j. rowAt ruleRows (planAt ρ (kindAt bs p) 0 + j))))
 
   pub new-count : (n : ℕ) → n ≡ nodeCount bs → nodesAt bs + constraintCount bs + length (state n .rows) ≡ newCount bs ρ
   unfolding newCount translated rows constraints state

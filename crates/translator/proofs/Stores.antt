@@ -4,15 +4,11 @@ use mathlib.Core.Path.{_≡_, sym, ap, _∙_}
 use Prim.Native.Nat.{ℕ, suc, _+_}
 use native.Mathlib.Omega.{arith}
 use mathlib.Core.List.{List, [], _∷_, _++_}
-use lib.ListN.{length, set}
+use lib.ListN.{set}
 use lib.Seq.{sets}
+use Rattle.numbers.proofs.Lists.{sets-++}
 use Rattle.table.specs.Records.{wordBytes}
 use Rattle.translator.specs.Cells.{recordOf}
-
--- Two runs one behind the other.
-pub sets-++ : (l : List ℕ) (i : ℕ) (xs ys : List ℕ) → sets l i (xs ++ ys) ≡ sets (sets l i xs) (i + length xs) ys
-sets-++ l i [] ys = let e : i + 0 ≡ i = omega arith in rw e
-sets-++ l i (x ∷ xs) ys = sets-++ (set l i x) (suc i) xs ys ∙ ap (λ k. sets (sets (set l i x) (suc i) xs) k ys) (omega arith)
 
 -- Four stores in a row.
 pub four-stores : (l : List ℕ) (i a b c d : ℕ) → set (set (set (set l i a) (i + 1) b) (i + 2) c) (i + 3) d ≡ sets l i (a ∷ b ∷ c ∷ d ∷ [])

@@ -6,7 +6,7 @@ use mathlib.Core.Option.{Option, none, some, orElse}
 use Prim.Native.Nat.{ℕ}
 use native.Mathlib.Omega.{arith}
 use Rattle.answers.specs.Check.{Refusal, refuse}
-use Rattle.answers.proofs.FirstFault.{unmapped}
+use Rattle.answers.proofs.Faults.{unmapped}
 use Rattle.verdict.specs.Results.{faultAt, isNone}
 
 pub sound-none : (o : Option Refusal) {b : Bool} → b ≡ isNone o → b ≡ true → o ≡ none

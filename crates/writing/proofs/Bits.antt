@@ -8,7 +8,7 @@ use lib.IntN.{ℤ, pos, negsuc, _+ℤ_, predℤ}
 use Rattle.numbers.proofs.Naturals.{lt-or-ge}
 use Rattle.numbers.proofs.Parts.{up, dn, +-parts, pred-parts}
 use Rattle.table.specs.Records.{signed, bitsOf}
-use Rattle.layout.proofs.Words.{signed-low, signed-high}
+use Rattle.table.proofs.Signs.{signed-low, signed-high}
 
 -- Bits are the bits of what they stand for.
 pub bits-signed : (w : ℕ) → w < 0x1_0000_0000 → bitsOf (signed w) ≡ w

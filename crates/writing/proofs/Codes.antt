@@ -13,7 +13,7 @@ use Rattle.table.specs.Records.{signed, bitsOf}
 use Rattle.table.specs.Kinds.{kinds, kindOf}
 use Rattle.kinds.specs.Entries.{codeX, codeOf}
 use Rattle.translator.specs.Words.{literal, looksUp}
-use Rattle.layout.proofs.Words.{signed-low, signed-high}
+use Rattle.table.proofs.Signs.{signed-low, signed-high}
 use Rattle.writing.specs.Codes.{standsFor, namesArray}
 use Rattle.writing.proofs.Bits.{bits-signed}
 

@@ -12,10 +12,11 @@ use Rattle.language.specs.Readings.{Reading}
 use Rattle.table.specs.Records.{CN, recordSize, firstLetter, secondLetter, bitsOf, recordBytes, xAt}
 use Rattle.answers.specs.Sections.{listed, constraintsAt, restAt, constraintCount, constraints}
 use Rattle.answers.specs.Answers.{translated, newConstraints}
-use Rattle.layout.proofs.Numbered.{length-listed}
+use Rattle.answers.proofs.Listed.{length-listed}
+use Rattle.answers.proofs.Declared as declared
 use Rattle.translator.specs.Cells.{recordOf}
 use Rattle.translator.proofs.Cells.{length-recordOf}
-use Rattle.translator.proofs.Stores.{sets-++}
+use Rattle.numbers.proofs.Lists.{sets-++}
 use Rattle.writing.specs.Constraints.{constraintsOver}
 
 module _ (firsts : List ℕ) where
@@ -41,8 +42,8 @@ newConstraints-over bs ρ firsts h (k ∷ ks) = rw (h k, newConstraints-over bs 
 
 -- How many constraints there are.
 pub length-constraints : (bs : List ℕ) → length (constraints bs) ≡ restAt bs - constraintsAt bs
-unfolding constraints constraintCount
-length-constraints bs = length-listed (λ i. natAbs (xAt bs (constraintsAt bs + i))) (restAt bs - constraintsAt bs)
+unfolding constraintCount
+length-constraints bs = declared.length-constraints bs
 
 -- ---- one constraint more
 
@@ -61,7 +62,7 @@ module _ (bs firsts : List ℕ) (from : ℕ) where
 
   -- and a record's bytes.
   length-recordsOf : (i : ℕ) → length (recordsOf i) ≡ recordSize * i
-  length-recordsOf i = length-constraintsOver firsts (listed i (λ j. natAbs (xAt bs (constraintsAt bs + j)))) ∙ ap (λ n. recordSize * n) (length-listed (λ j. natAbs (xAt bs (constraintsAt bs + j))) i)
+  length-recordsOf i = length-constraintsOver firsts (listed i (λ j. natAbs (xAt bs (constraintsAt bs + j)))) ∙ ap (λ n. recordSize * n) (length-listed i _)
 
   -- Nothing is put at first,
   pub none-put : (o : List ℕ) → o ≡ sets o (recordSize * from) (recordsOf 0)

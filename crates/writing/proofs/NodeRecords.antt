@@ -12,7 +12,7 @@ use Rattle.table.specs.Kinds.{nodeBytes}
 use Rattle.answers.specs.Answers.{newNodes}
 use Rattle.translator.specs.Cells.{Cell, recordOf, cellBytes, cellsBytes, fields}
 use Rattle.translator.proofs.Cells.{cellsBytes-++, length-cellsBytes}
-use Rattle.translator.proofs.Stores.{sets-++}
+use Rattle.numbers.proofs.Lists.{sets-++}
 
 -- A row's record is its cell's.
 row-bytes : (r : Row) → nodeBytes r ≡ cellBytes (fields r)

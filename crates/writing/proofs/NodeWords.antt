@@ -17,7 +17,8 @@ use Rattle.table.specs.Kinds.{kinds, kindOf}
 use Rattle.kinds.specs.Entries.{codeX, rowOf}
 use Rattle.kinds.proofs.Columns.{at-row}
 use Rattle.answers.specs.Sections.{declarations, arrayRecords, arrayOf}
-use Rattle.layout.proofs.Numbered.{length-listed, array-at}
+use Rattle.answers.proofs.Listed.{length-listed}
+use Rattle.answers.proofs.Declared.{arrayAt-declarations}
 use Rattle.translator.specs.Words.{literal, looksUp, nodeNumbers, nodeWords}
 use Rattle.writing.specs.Codes.{standsFor, namesArray}
 use Rattle.writing.specs.Ends.{indexesOf}
@@ -47,7 +48,7 @@ indexes-are bs p {f} {l} {n} h a b c = rw (length-listed) (both (sym (ap (λ w. 
 
 -- The indices of array a, which stands at record p,
 pub looked-up : (bs : List ℕ) {a p : ℕ} {t : Bool} → a < length (arrayRecords bs) → p ≡ getD (arrayRecords bs) a 0 → t ≡ true → indexesOf true (arrayOf bs p) ≡ indexesOf t (arrayAt (declarations bs) a)
-looked-up bs h e f = rw (f, e, array-at bs _ h)
+looked-up bs h e f = rw (f, e, arrayAt-declarations bs _ h)
 
 -- and none where no array is looked up.
 pub not-looked-up : (A : Array) {t : Bool} → t ≡ false → _≡_ {A = Indexes} (record { first = 0; last = 0 }) (indexesOf t A)

@@ -5,9 +5,10 @@ use mathlib.Core.Logic.{⊎-elim}
 use Prim.Native.Nat.{ℕ, suc, _+_, _≤_, _<_}
 use native.Mathlib.Omega.{arith}
 use mathlib.Core.List.{List, [], _∷_, _++_}
-use lib.ListN.{length, getD, set, replicate, length-append, length-set, length-replicate, getD-replicate, List·getD-append, List·getD-eq-default}
+use lib.ListN.{length, getD, set, replicate, length-append, length-set, length-replicate, List·getD-append, List·getD-eq-default}
 use lib.Seq.{getD-at, getD-set-same, getD-set-other}
 use Rattle.numbers.proofs.Naturals.{lt-or-ge}
+use Rattle.numbers.proofs.Lists.{getD-replicate-same}
 
 -- The places hold these positions, and 0 behind them.
 pub record Positions (ps places : List ℕ) (n : ℕ) : Type 0 where
@@ -17,10 +18,7 @@ pub record Positions (ps places : List ℕ) (n : ℕ) : Type 0 where
 
 -- At first there are none,
 pub no-positions : {places : List ℕ} → places ≡ replicate 5_000 0 → Positions [] places 0
-no-positions e = rw e (record { sized = length-replicate {A = ℕ} 5_000 0; counted = refl; held = λ k. zeros k })
-  where
-    zeros : (k : ℕ) → _≡_ {A = ℕ} (getD (replicate 5_000 0) k 0) 0
-    zeros k = ⊎-elim (λ h. getD-replicate {A = ℕ} 5_000 k 0 0 h) (λ h. List·getD-eq-default (replicate 5_000 0) 0 {n = k} (rw length-replicate h)) (lt-or-ge k 5_000)
+no-positions e = rw e (record { sized = length-replicate {A = ℕ} 5_000 0; counted = refl; held = λ k. getD-replicate-same {A = ℕ} 5_000 k 0 })
 
 -- and each is stored behind those before it.
 pub one-position-more : {ps places : List ℕ} {n : ℕ} → Positions ps places n → n < 5_000 → (v : ℕ) → Positions (ps ++ (v ∷ [])) (set places n v) (n + 1)

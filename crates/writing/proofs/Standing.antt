@@ -18,7 +18,7 @@ use Rattle.translator.specs.Words.{nodeNumbers, nodeWords}
 use Rattle.translator.proofs.Cells.{map-++}
 use Rattle.translator.proofs.Compiled.{rowFor}
 use Rattle.translator.proofs.States.{state, state-zero, state-suc, node-writes, length-state-suc, new-count}
-use Rattle.translator.proofs.Stores.{sets-++}
+use Rattle.numbers.proofs.Lists.{sets-++}
 use Rattle.writing.specs.Constraints.{constraintsOver}
 use Rattle.writing.proofs.ConstraintRecords.{newConstraints-over}
 use Rattle.writing.proofs.NodeRecords.{newNodes-cells, length-newNodes, stored}

@@ -3,7 +3,8 @@
 use Rattle.bounds.proofs.Declared.{array-elements, behind-inside, hulls-of}
 use mir.Facts.{toZ-ofZ}
 use Rattle.layout.proofs.Order.{laid}
-use Rattle.bounds.proofs.Filled.{Filled, filled-none, filled-more}
+use lib.IntN.{pos}
+use Rattle.numbers.proofs.Lists.{Filled, filled-none, filled-more}
 use Rattle.answers.specs.Sections.{declarations, arrayRecords}
 use Rattle.rules.specs.Bounds.{Interval, elementsInterval}
 use Rattle.language.specs.Meaning.{arrayAt}
@@ -16,7 +17,7 @@ use Rattle.bounds.proofs.array_hulls.Statement.{statement}
 use Rattle.bounds.proofs.array_hulls.Tie as tie
 
 abbrev Inv-loop : tie.InvT-loop
-Inv-loop s at lows₀ highs₀ places count a₀ lows highs a = Filled mostArrays (λ k. elementsInterval (declarations s) (arrayAt (declarations s) k .elements) .low) lows a × Filled mostArrays (λ k. elementsInterval (declarations s) (arrayAt (declarations s) k .elements) .high) highs a × (a ≤ count)
+Inv-loop s at lows₀ highs₀ places count a₀ lows highs a = Filled (pos 0) mostArrays (λ k. elementsInterval (declarations s) (arrayAt (declarations s) k .elements) .low) lows a × Filled (pos 0) mostArrays (λ k. elementsInterval (declarations s) (arrayAt (declarations s) k .elements) .high) highs a × (a ≤ count)
 
 abbrev μ-loop : tie.MeasureT-loop
 μ-loop s at lows₀ highs₀ places count a₀ lows highs a = count - a
@@ -32,7 +33,7 @@ array-records-requires : tie.Need-array-records-requires Inv-loop μ-loop
 array-records-requires c κs = (c .before .pre .0, c .before .pre .1 .0)
 
 loop-holds : tie.Need-loop-holds Inv-loop μ-loop
-loop-holds c = (filled-none _ _ (c .before .before .pre .1 .1 .0), filled-none _ _ (c .before .before .pre .1 .1 .1), omega arith)
+loop-holds c = (filled-none _ _ _ (c .before .before .pre .1 .1 .0), filled-none _ _ _ (c .before .before .pre .1 .1 .1), omega arith)
 
 mul-elements : tie.Need-mul-elements Inv-loop μ-loop
 mul-elements c = omega (arith, few c)
@@ -62,7 +63,7 @@ loop-less : tie.Need-loop-less Inv-loop μ-loop
 loop-less c = omega arith
 
 loop-again : tie.Need-loop-again Inv-loop μ-loop
-loop-again c = let d = c .before .before .before in let e = c .before .before .elements .ensures ∙ array-elements (c .before .before .before .before .before .before .before .args .s .now) (c .before .before .before .before .loop .a) (counted d) (c .before .before .before .before .before .array-records .ensures .held (c .before .before .before .before .loop .a)) in (filled-more _ _ (c .before .before .before .before .loop .inv .0) (omega (arith, few d)) (toZ-ofZ (record { sfits = c .before .struct-told .given .0 .1 }) ∙ ap (λ (i : Interval). i .low) e), filled-more _ _ (c .before .before .before .before .loop .inv .1) (omega (arith, few d)) (toZ-ofZ (record { sfits = c .struct-told2 .given .1 .0 .1 }) ∙ ap (λ (i : Interval). i .high) e), omega arith)
+loop-again c = let d = c .before .before .before in let e = c .before .before .elements .ensures ∙ array-elements (c .before .before .before .before .before .before .before .args .s .now) (c .before .before .before .before .loop .a) (counted d) (c .before .before .before .before .before .array-records .ensures .held (c .before .before .before .before .loop .a)) in (filled-more _ _ _ (c .before .before .before .before .loop .inv .0) (omega (arith, few d)) (toZ-ofZ (record { sfits = c .before .struct-told .given .0 .1 }) ∙ ap (λ (i : Interval). i .low) e), filled-more _ _ _ (c .before .before .before .before .loop .inv .1) (omega (arith, few d)) (toZ-ofZ (record { sfits = c .struct-told2 .given .1 .0 .1 }) ∙ ap (λ (i : Interval). i .high) e), omega arith)
 
 same-length : tie.Need-same-length Inv-loop μ-loop
 same-length c = c .before .loop .inv .0 .sized ∙ sym (ap length (c .before .before .before .before .pre .1 .1 .0))

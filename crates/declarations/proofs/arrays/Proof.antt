@@ -1,12 +1,12 @@
 -- `declarations::arrays` meets its contract: the arrays passed have no fault.
 -- Assumes nothing.
-use mathlib.Core.Path.{_≡_, sym, _∙_}
+use mathlib.Core.Path.{sym, _∙_}
 use Prim.Native.Nat.{_-_}
 use native.Mathlib.Omega.{arith}
 use borrow.Author.Tests.{not-true, not-false}
-use Rattle.table.specs.Records.{AR, recordSize, recordCount}
+use Rattle.table.specs.Records.{AR}
 use Rattle.table.specs.Marks.{markOf}
-use Rattle.answers.proofs.FirstFault.{unless-true, unless-false}
+use Rattle.answers.proofs.Faults.{unless-true, unless-false}
 use Rattle.answers.proofs.RunEnds.{unmarked-beyond}
 use Rattle.verdict.proofs.Soundness.{sound-none}
 use Rattle.declarations.proofs.ArrayWalk.{Passed, none-passed, all-passed, array-refused, elements-refused, one-passed}

@@ -1,7 +1,7 @@
 -- `declarations::domain_allowed` meets its contract, for each type.
 -- Assumes nothing.
 use native.Mathlib.Omega.{arith}
-use mathlib.Core.Path.{_≡_, sym, _∙_, ap}
+use mathlib.Core.Path.{_≡_, _∙_}
 use Prim.Native.Nat.{ℕ}
 use lib.Dec.{leb}
 use Rattle.declarations.proofs.Tests.{boolean-domain, integer-domain}

@@ -1,6 +1,6 @@
 -- `declarations::elements` meets its contract: no fault among the elements passed, so all of them are within the table.
 -- Assumes nothing.
-use mathlib.Core.Path.{_≡_, sym, _∙_}
+use mathlib.Core.Path.{_≡_}
 use mathlib.Core.Option.{none}
 use Prim.Native.Nat.{ℕ, _+_, _-_, _≤_}
 use native.Mathlib.Omega.{arith}
@@ -10,7 +10,7 @@ use borrow.Author.Tests.{not-true, not-false}
 use Rattle.table.specs.Records.{EL, recordCount}
 use Rattle.answers.specs.Sections.{sortOfKind}
 use Rattle.answers.specs.Check.{firstFault, elementFault}
-use Rattle.answers.proofs.FirstFault.{first-zero, first-more, first-refusal, first-done}
+use Rattle.answers.proofs.Faults.{first-zero, first-more, first-refusal, first-done}
 use Rattle.answers.proofs.RunEnds.{marked-within}
 use Rattle.verdict.proofs.Soundness.{sound-none, unsound-some, no-fault}
 use Rattle.declarations.proofs.ElementTests.{element-marked}

@@ -1,10 +1,9 @@
 -- `declarations::header` meets its contract.
 -- Assumes nothing.
 use mathlib.Core.Path.{sym, _∙_, ap}
-use native.Mathlib.Omega.{arith}
 use borrow.Author.Tests.{not-true, not-false}
 use Rattle.table.specs.Marks.{markOf}
-use Rattle.answers.proofs.FirstFault.{unless-true, unless-false}
+use Rattle.answers.proofs.Faults.{unless-true, unless-false}
 use Rattle.verdict.specs.Results.{faultAt}
 use Rattle.declarations.proofs.Tests.{only-one, header-test, header-misplaced}
 use borrow.Author.Needs.{needs}

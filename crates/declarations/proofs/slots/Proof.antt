@@ -6,7 +6,7 @@ use Prim.Native.Nat.{ℕ, _+_, _-_, _≤_}
 use native.Mathlib.Omega.{arith}
 use borrow.Author.Tests.{not-true, not-false}
 use Rattle.answers.specs.Check.{firstFault, slotFault}
-use Rattle.answers.proofs.FirstFault.{unless-true, unless-false, first-zero, first-more, first-at, first-done}
+use Rattle.answers.proofs.Faults.{unless-true, unless-false, first-zero, first-more, first-at, first-done}
 use borrow.Author.Needs.{needs}
 use Rattle.declarations.proofs.slots.Statement.{statement}
 use Rattle.declarations.proofs.slots.Tie as tie

@@ -6,9 +6,9 @@ use Prim.Native.Nat.{ℕ, _+_, _-_, _≤_}
 use native.Mathlib.Omega.{arith}
 use borrow.Author.Tests.{not-true, not-false}
 use Rattle.answers.specs.Check.{firstFault, variableFault}
-use Rattle.answers.proofs.FirstFault.{unless-true, unless-false, first-zero, first-more, first-at, first-done}
-use mathlib.Core.Path.{_≡_, sym, _∙_, ap}
-use Rattle.answers.proofs.FirstFault.{unless-true, unless-false, first-zero, first-more, first-at}
+use Rattle.answers.proofs.Faults.{unless-true, unless-false, first-zero, first-more, first-at, first-done}
+use mathlib.Core.Path.{_≡_, sym, _∙_}
+use Rattle.answers.proofs.Faults.{unless-true, unless-false, first-zero, first-more, first-at}
 use borrow.Author.Needs.{needs}
 use Rattle.declarations.proofs.variables.Statement.{statement}
 use Rattle.declarations.proofs.variables.Tie as tie

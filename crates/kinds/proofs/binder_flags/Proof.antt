@@ -60,7 +60,7 @@ loop-again c = (
 )
 
 returns : tie.Need-returns Inv-loop μ-loop
-returns c = let e : c .before .loop .k ≡ 31 = omega arith in filled-all bindsOf (rw (← e) (c .before .loop .inv .1))
+returns c = filled-all bindsOf (c .before .loop .inv .1) (omega arith)
 
 pub binder-flags-spec : {M : Type 1} → statement M
 binder-flags-spec =

@@ -1,7 +1,8 @@
 -- `layout::arrays_from` meets its contract.
 -- Assumes nothing.
 use Rattle.layout.proofs.Walked.{Walked, walked-none, walked-more, walked-all}
-use Rattle.layout.proofs.Runs.{lettered-marked, unmarked-past, behind-at}
+use Rattle.layout.proofs.Runs.{lettered-marked, behind-at}
+use Rattle.answers.proofs.RunEnds.{unmarked-beyond}
 use Rattle.layout.proofs.Words.{yAt-natAbs-≤}
 use Rattle.table.specs.Records.{AR, firstLetter, secondLetter, recordCount, recordSize}
 use borrow.Author.Tests.{not-true, not-false}
@@ -50,7 +51,7 @@ loop-again c = walked-more _ _ (c .before .before .before .before .loop .inv) (c
 
 returns-2 : tie.Need-returns-2 Inv-loop μ-loop
 unfolding recordCount recordSize
-returns-2 c = walked-all _ _ (c .before .loop .inv) (unmarked-past _ AR _ (c .before .before .before .pre) (c .loop-test .left))
+returns-2 c = walked-all _ _ (c .before .loop .inv) (unmarked-beyond _ (c .before .before .before .pre) AR _ (c .loop-test .left))
 
 pub arrays-from-spec : {M : Type 1} → statement M
 arrays-from-spec =

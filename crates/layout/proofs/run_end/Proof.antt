@@ -3,7 +3,8 @@
 use native.Mathlib.Numerals.{add-one}
 use Rattle.table.specs.Records.{recordSize, Mark, firstLetter, secondLetter, recordCount}
 use borrow.Author.Tests.{not-true, not-false}
-use Rattle.layout.proofs.Runs.{lettered-marked, unmarked-past, run-stop, run-more}
+use Rattle.layout.proofs.Runs.{lettered-marked}
+use Rattle.answers.proofs.RunEnds.{unmarked-beyond, run-stop, run-on}
 use Rattle.answers.specs.Sections.{runEnd, endOf}
 use native.Mathlib.Omega.{arith}
 use mathlib.Core.Path.{_≡_, sym, _∙_}
@@ -36,11 +37,11 @@ loop-less c = omega arith
 
 loop-again : tie.Need-loop-again Inv-loop μ-loop
 unfolding recordCount recordSize
-loop-again c = (omega arith, λ m e f. rw add-one (sym (run-more _ m _ _ _ (omega arith) (sym (lettered-marked _ m _ e f) ∙ sym (c .before .marked .ensures) ∙ not-false _ (c .if1 .left))) ∙ c .before .before .before .loop .inv .1 m e f))
+loop-again c = (omega arith, λ m e f. rw add-one (sym (run-on _ m _ _ _ (omega arith) (sym (lettered-marked _ m _ e f) ∙ sym (c .before .marked .ensures) ∙ not-false _ (c .if1 .left))) ∙ c .before .before .before .loop .inv .1 m e f))
 
 returns-2 : tie.Need-returns-2 Inv-loop μ-loop
 unfolding recordCount recordSize
-returns-2 c = λ m e f. sym (run-stop _ m _ _ (unmarked-past _ m _ (c .before .before .before .pre) (c .loop-test .left))) ∙ c .before .loop .inv .1 m e f
+returns-2 c = λ m e f. sym (run-stop _ m _ _ (unmarked-beyond _ (c .before .before .before .pre) m _ (c .loop-test .left))) ∙ c .before .loop .inv .1 m e f
 
 pub run-end-spec : {M : Type 1} → statement M
 run-end-spec =

@@ -1,7 +1,6 @@
 -- `nodes::constraint` meets its contract: each way out of it is one of document 01's cases.
 -- Assumes nothing.
 use mathlib.Core.Path.{refl}
-use native.Mathlib.Omega.{arith}
 use borrow.Author.Tests.{not-true, not-false}
 use Rattle.verdict.proofs.Soundness.{refused-at, sound-at}
 use Rattle.nodes.proofs.ConstraintTests.{constraint-not-allowed, constraint-names-nothing, constraint-wrong-type, constraint-open, constraint-sound}

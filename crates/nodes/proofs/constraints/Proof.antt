@@ -1,13 +1,13 @@
 -- `nodes::constraints` meets its contract: no fault among the constraints passed.
 -- Assumes nothing.
-use mathlib.Core.Path.{_≡_, sym, _∙_, ap}
+use mathlib.Core.Path.{_≡_}
 use mathlib.Core.Option.{none}
 use Prim.Native.Nat.{ℕ, _+_, _-_, _*_, _^_, _%_, _≤_}
 use native.Mathlib.Omega.{arith}
 use borrow.Author.Tests.{not-true, not-false}
 use lib.Pow.{pow-mono, pow-pos}
 use Rattle.answers.specs.Check.{firstFault, constraintFault}
-use Rattle.answers.proofs.FirstFault.{first-zero, first-more, first-refusal, first-done}
+use Rattle.answers.proofs.Faults.{first-zero, first-more, first-refusal, first-done}
 use Rattle.verdict.proofs.Soundness.{sound-none, unsound-some, no-fault}
 use borrow.Author.Needs.{needs}
 use Rattle.nodes.proofs.constraints.Statement.{statement}

@@ -1,6 +1,8 @@
+-- `nodes::enter_arrays` meets its contract: the facts of the arrays passed stand at their places.
+-- Assumes nothing.
 use borrow.Author.Needs.{needs}
-use mathlib.Core.Path.{_≡_, refl, sym, _∙_, ap}
-use Prim.Native.Nat.{ℕ, _+_, _-_, _*_, _^_, _≤_}
+use mathlib.Core.Path.{_≡_, sym, _∙_, ap}
+use Prim.Native.Nat.{ℕ, _-_, _≤_}
 use native.Mathlib.Omega.{arith}
 use lib.ListN.{getD}
 use Rattle.table.specs.Records.{AR, kindAt}
@@ -11,11 +13,6 @@ use Rattle.nodes.proofs.Entered.{entered-none, entered-more}
 use Rattle.nodes.proofs.Turns.{ArrayAt, first-array, array-marked, array-record, next-array}
 use Rattle.nodes.proofs.enter_arrays.Statement.{statement}
 use Rattle.nodes.proofs.enter_arrays.Tie as tie
-use Rattle.nodes.proofs.enter_arrays.Reads as reads
-use Rattle.nodes.proofs.enter_arrays.Lts as lts
-use Rattle.table.proofs.kind_at.Reads as kind-at-reads
-use Rattle.table.proofs.magnitude.Reads as magnitude-reads
-use Rattle.table.proofs.y_bits.Reads as y-bits-reads
 
 abbrev Inv-loop : tie.InvT-loop
 Inv-loop facts₀ table from count p₀ a₀ facts p a = (a ≤ count) × (facts ≡ entered 19 (λ (k : ℕ). kindAt table (getD (arrayRecords table) k 0)) a facts₀) × ArrayAt table a p
@@ -23,55 +20,42 @@ Inv-loop facts₀ table from count p₀ a₀ facts p a = (a ≤ count) × (facts
 abbrev μ-loop : tie.MeasureT-loop
 μ-loop facts₀ table from count p₀ a₀ facts p a = count - a
 
--- src/lib.rt:136:5
 loop-holds : tie.Need-loop-holds Inv-loop μ-loop
 loop-holds c = (omega arith, entered-none 19 _ _, first-array _ (c .before .pre .1 .first))
 
--- src/lib.rt:137:29
 kind-at-requires : tie.Need-kind-at-requires Inv-loop μ-loop
 kind-at-requires c κs = marked-within _ (c .before .before .before .pre .1 .whole) AR _ (array-marked _ (c .before .loop .inv .2) (omega (arith, c .before .before .before .pre .1 .counted)))
 
--- src/lib.rt:137:29
 cast-facts : tie.Need-cast-facts Inv-loop μ-loop
 cast-facts c = omega (arith, c .kind-at .ok)
 
--- src/lib.rt:137:15
 add-facts : tie.Need-add-facts Inv-loop μ-loop
 add-facts c = omega (arith, c .before .before .before .before .pre .1 .few)
 
--- src/lib.rt:137:9
 mul-facts : tie.Need-mul-facts Inv-loop μ-loop
 mul-facts c = omega (arith, c .before .before .before .before .pre .1 .few)
 
--- src/lib.rt:137:9
 element-write-facts : tie.Need-element-write-facts Inv-loop μ-loop
 element-write-facts c = omega (arith, c .before .before .before .before .pre .1 .few)
 
--- src/lib.rt:138:13
 add-p : tie.Need-add-p Inv-loop μ-loop
 add-p c = omega (arith, marked-within _ (c .before .before .before .before .pre .1 .whole) AR _ (array-marked _ (c .before .before .loop .inv .2) (omega (arith, c .before .before .before .before .pre .1 .counted))), c .before .before .before .before .pre .1 .few-records)
 
--- src/lib.rt:138:38
 y-bits-requires : tie.Need-y-bits-requires Inv-loop μ-loop
 y-bits-requires c κs = marked-within _ (c .before .before .before .before .pre .1 .whole) AR _ (array-marked _ (c .before .before .loop .inv .2) (omega (arith, c .before .before .before .before .pre .1 .counted)))
 
--- src/lib.rt:138:21
 magnitude-requires : tie.Need-magnitude-requires Inv-loop μ-loop
 magnitude-requires c κs = search needs
 
--- src/lib.rt:138:13
 add-p-2 : tie.Need-add-p-2 Inv-loop μ-loop
 add-p-2 c = omega (arith, c .magnitude .ensures .1, marked-within _ (c .before .before .before .before .before .before .pre .1 .whole) AR _ (array-marked _ (c .before .before .before .before .loop .inv .2) (omega (arith, c .before .before .before .before .before .before .pre .1 .counted))), c .before .before .before .before .before .before .pre .1 .few-records)
 
--- src/lib.rt:136:9
 add-a : tie.Need-add-a Inv-loop μ-loop
 add-a c = omega arith
 
--- src/lib.rt:136:5
 loop-less : tie.Need-loop-less Inv-loop μ-loop
 loop-less c = omega arith
 
--- src/lib.rt:136:5
 loop-again : tie.Need-loop-again Inv-loop μ-loop
 loop-again c = (
   omega arith,
@@ -80,7 +64,6 @@ loop-again c = (
   next-array _ (c .before .before .before .before .loop .inv .2) (omega (arith, c .before .before .before .before .before .before .pre .1 .counted)) (c .before .y-bits .ensures) (c .magnitude .ensures .0),
 )
 
--- src/lib.rt:130:1
 returns : tie.Need-returns Inv-loop μ-loop
 returns c = let e : c .before .loop .a ≡ c .before .before .before .args .count = omega arith in rw (← e) (c .before .loop .inv .1)
 

@@ -1,15 +1,13 @@
-use borrow.Author.Needs.{needs}
-use mathlib.Core.Path.{_≡_, refl, sym, _∙_, ap}
+-- `nodes::enter_slots` meets its contract: the facts of the slots passed stand at their places.
+-- Assumes nothing.
+use mathlib.Core.Path.{_≡_, ap}
 use Prim.Native.Nat.{ℕ, _+_, _-_, _*_, _^_, _≤_}
 use native.Mathlib.Omega.{arith}
-use Rattle.table.specs.Records.{kindAt}
 use Rattle.nodes.specs.Facts.{entered}
 use Rattle.nodes.proofs.Entered.{entered-none, entered-more}
 use lib.Pow.{pow-mono, shl-exact}
 use Rattle.nodes.proofs.enter_slots.Statement.{statement}
 use Rattle.nodes.proofs.enter_slots.Tie as tie
-use Rattle.nodes.proofs.enter_slots.Reads as reads
-use Rattle.nodes.proofs.enter_slots.Lts as lts
 
 abbrev Inv-loop : tie.InvT-loop
 Inv-loop facts₀ count s₀ facts s = (s ≤ count) × (facts ≡ entered 3 (λ (k : ℕ). 2 * 2 ^ k + 1) s facts₀)
@@ -17,47 +15,36 @@ Inv-loop facts₀ count s₀ facts s = (s ≤ count) × (facts ≡ entered 3 (λ
 abbrev μ-loop : tie.MeasureT-loop
 μ-loop facts₀ count s₀ facts s = count - s
 
--- src/lib.rt:112:5
 loop-holds : tie.Need-loop-holds Inv-loop μ-loop
 loop-holds c = (omega arith, entered-none 3 _ _)
 
--- src/lib.rt:113:38
 cast-facts : tie.Need-cast-facts Inv-loop μ-loop
 cast-facts c = omega arith
 
--- src/lib.rt:113:29
 shl-facts : tie.Need-shl-facts Inv-loop μ-loop
 shl-facts c = omega arith
 
--- src/lib.rt:113:28
 add-facts : tie.Need-add-facts Inv-loop μ-loop
 add-facts c = omega (arith, pow-mono {i = c .before .loop .s} {j = 16} (omega arith))
 
--- src/lib.rt:113:15
 add-facts-2 : tie.Need-add-facts-2 Inv-loop μ-loop
 add-facts-2 c = omega arith
 
--- src/lib.rt:113:9
 mul-facts : tie.Need-mul-facts Inv-loop μ-loop
 mul-facts c = omega arith
 
--- src/lib.rt:113:9
 element-write-facts : tie.Need-element-write-facts Inv-loop μ-loop
 element-write-facts c = omega arith
 
--- src/lib.rt:112:9
 add-s : tie.Need-add-s Inv-loop μ-loop
 add-s c = omega arith
 
--- src/lib.rt:112:5
 loop-less : tie.Need-loop-less Inv-loop μ-loop
 loop-less c = omega arith
 
--- src/lib.rt:112:5
 loop-again : tie.Need-loop-again Inv-loop μ-loop
 loop-again c = (omega arith, entered-more 3 _ _ (c .before .loop .s) (c .before .loop .inv .1) (ap (λ (n : ℕ). n + 1) (shl-exact 2 (c .before .loop .s) 32 (omega arith) (omega arith))))
 
--- src/lib.rt:107:1
 returns : tie.Need-returns Inv-loop μ-loop
 returns c = let e : c .before .loop .s ≡ c .before .before .args .count = omega arith in rw (← e) (c .before .loop .inv .1)
 

@@ -1,15 +1,13 @@
-use borrow.Author.Needs.{needs}
-use mathlib.Core.Path.{_≡_, refl, sym, _∙_, ap}
-use Prim.Native.Nat.{ℕ, _+_, _-_, _*_, _^_, _≤_}
+-- `nodes::enter_variables` meets its contract: the facts of the variables passed stand at their places.
+-- Assumes nothing.
+use mathlib.Core.Path.{_≡_}
+use Prim.Native.Nat.{ℕ, _+_, _-_, _≤_}
 use native.Mathlib.Omega.{arith}
 use Rattle.table.specs.Records.{kindAt}
 use Rattle.nodes.specs.Facts.{entered}
 use Rattle.nodes.proofs.Entered.{entered-none, entered-more}
 use Rattle.nodes.proofs.enter_variables.Statement.{statement}
 use Rattle.nodes.proofs.enter_variables.Tie as tie
-use Rattle.nodes.proofs.enter_variables.Reads as reads
-use Rattle.nodes.proofs.enter_variables.Lts as lts
-use Rattle.table.proofs.kind_at.Reads as kind-at-reads
 
 abbrev Inv-loop : tie.InvT-loop
 Inv-loop facts₀ table count v₀ facts v = (v ≤ count) × (facts ≡ entered 83 (λ (k : ℕ). kindAt table (1 + k)) v facts₀)
@@ -17,47 +15,36 @@ Inv-loop facts₀ table count v₀ facts v = (v ≤ count) × (facts ≡ entered
 abbrev μ-loop : tie.MeasureT-loop
 μ-loop facts₀ table count v₀ facts v = count - v
 
--- src/lib.rt:123:5
 loop-holds : tie.Need-loop-holds Inv-loop μ-loop
 loop-holds c = (omega arith, entered-none 83 _ _)
 
--- src/lib.rt:124:54
 add-kind-at : tie.Need-add-kind-at Inv-loop μ-loop
 add-kind-at c = omega arith
 
--- src/lib.rt:124:32
 kind-at-requires : tie.Need-kind-at-requires Inv-loop μ-loop
 kind-at-requires c κs = c .before .before .before .pre .1 .1 (c .before .loop .v) (omega arith)
 
--- src/lib.rt:124:32
 cast-facts : tie.Need-cast-facts Inv-loop μ-loop
 cast-facts c = omega (arith, c .kind-at .ok)
 
--- src/lib.rt:124:15
 add-facts : tie.Need-add-facts Inv-loop μ-loop
 add-facts c = omega arith
 
--- src/lib.rt:124:9
 mul-facts : tie.Need-mul-facts Inv-loop μ-loop
 mul-facts c = omega arith
 
--- src/lib.rt:124:9
 element-write-facts : tie.Need-element-write-facts Inv-loop μ-loop
 element-write-facts c = omega arith
 
--- src/lib.rt:123:9
 add-v : tie.Need-add-v Inv-loop μ-loop
 add-v c = omega arith
 
--- src/lib.rt:123:5
 loop-less : tie.Need-loop-less Inv-loop μ-loop
 loop-less c = omega arith
 
--- src/lib.rt:123:5
 loop-again : tie.Need-loop-again Inv-loop μ-loop
 loop-again c = (omega arith, entered-more 83 _ _ (c .before .before .loop .v) (c .before .before .loop .inv .1) (c .kind-at .ensures))
 
--- src/lib.rt:117:1
 returns : tie.Need-returns Inv-loop μ-loop
 returns c = let e : c .before .loop .v ≡ c .before .before .before .args .count = omega arith in rw (← e) (c .before .loop .inv .1)
 

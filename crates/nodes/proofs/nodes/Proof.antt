@@ -1,38 +1,24 @@
+-- `nodes::nodes` meets its contract: no fault among the nodes passed, and their facts stand at their places.
+-- Assumes nothing.
 use borrow.Author.Needs.{needs}
 use denote.Ref.{now}
 use mathlib.Core.Option.{Option·some-ne-none}
 use Rattle.kinds.specs.Entries.{codeX, codeY, tagOf, bindsOf}
 use Rattle.answers.specs.Sections.{nodeCount}
 use Rattle.answers.specs.Check.{refuse}
-use Rattle.answers.proofs.FirstFault.{first-zero, first-more, first-at, first-done}
+use Rattle.answers.proofs.Faults.{first-zero, first-more, first-at, first-done}
 use Rattle.nodes.proofs.NodeStep.{turn-made, turn-refused}
 use Rattle.nodes.proofs.Turns.{known-more, limits-more, x-look-ok, y-look-ok, column, small-tag, row-small}
-use mathlib.Core.Path.{_≡_, refl, sym, _∙_, ap}
+use mathlib.Core.Path.{_≡_, sym, _∙_, ap}
 use mathlib.Core.Option.{none}
-use Prim.Native.Nat.{ℕ, _+_, _-_, _*_, _^_, _≤_}
+use Prim.Native.Nat.{ℕ, _+_, _-_, _≤_}
 use native.Mathlib.Omega.{arith}
-use lib.ListN.{getD}
 use Rattle.answers.specs.Sections.{nodesAt}
 use Rattle.answers.specs.Check.{firstFault, nodeFault}
 use Rattle.nodes.specs.Facts.{basesOf, limitsOf}
 use Rattle.nodes.specs.Known.{Known}
 use Rattle.nodes.proofs.nodes.Statement.{statement}
 use Rattle.nodes.proofs.nodes.Tie as tie
-use Rattle.nodes.proofs.nodes.Reads as reads
-use Rattle.nodes.proofs.nodes.Lts as lts
-use Rattle.kinds.proofs.binder_flags.Reads as binder-flags-reads
-use Rattle.kinds.proofs.row.Reads as row-reads
-use Rattle.kinds.proofs.x_codes.Reads as x-codes-reads
-use Rattle.kinds.proofs.y_codes.Reads as y-codes-reads
-use Rattle.kinds.proofs.yield_tags.Reads as yield-tags-reads
-use Rattle.nodes.proofs.look.Reads as look-reads
-use Rattle.nodes.proofs.make.Reads as make-reads
-use Rattle.nodes.proofs.node_fault.Reads as node-fault-reads
-use Rattle.nodes.proofs.wide.Reads as wide-reads
-use Rattle.table.proofs.aux_at.Reads as aux-at-reads
-use Rattle.table.proofs.kind_at.Reads as kind-at-reads
-use Rattle.table.proofs.x_bits.Reads as x-bits-reads
-use Rattle.table.proofs.y_bits.Reads as y-bits-reads
 
 abbrev Inv-loop : tie.InvT-loop
 Inv-loop table from count facts₀ x-codes y-codes tags binders bases limits₀ n₀ facts limits n =
@@ -41,137 +27,105 @@ Inv-loop table from count facts₀ x-codes y-codes tags binders bases limits₀ 
 abbrev μ-loop : tie.MeasureT-loop
 μ-loop table from count facts₀ x-codes y-codes tags binders bases limits₀ n₀ facts limits n = count - n
 
--- src/lib.rt:153:19
 x-codes-requires : tie.Need-x-codes-requires Inv-loop μ-loop
 x-codes-requires c κs = search needs
 
--- src/lib.rt:154:19
 y-codes-requires : tie.Need-y-codes-requires Inv-loop μ-loop
 y-codes-requires c κs = search needs
 
--- src/lib.rt:155:16
 yield-tags-requires : tie.Need-yield-tags-requires Inv-loop μ-loop
 yield-tags-requires c κs = search needs
 
--- src/lib.rt:156:19
 binder-flags-requires : tie.Need-binder-flags-requires Inv-loop μ-loop
 binder-flags-requires c κs = search needs
 
--- src/lib.rt:159:5
 loop-holds : tie.Need-loop-holds Inv-loop μ-loop
 loop-holds c = (omega arith, c .before .before .before .before .before .pre .limited, c .before .before .before .before .before .pre .known, first-zero _ _)
 
--- src/lib.rt:160:17
 add-p : tie.Need-add-p Inv-loop μ-loop
 add-p c = omega (arith, c .before .before .before .before .before .before .before .pre .section .within (c .before .loop .n) (omega arith), c .before .before .before .before .before .before .before .pre .section .few)
 
--- src/lib.rt:161:28
 kind-at-requires : tie.Need-kind-at-requires Inv-loop μ-loop
 kind-at-requires c κs = c .before .before .before .before .before .before .before .pre .section .within (c .before .loop .n) (omega arith)
 
--- src/lib.rt:161:13
 row-requires : tie.Need-row-requires Inv-loop μ-loop
 row-requires c κs = search needs
 
--- src/lib.rt:162:13
 aux-at-requires : tie.Need-aux-at-requires Inv-loop μ-loop
 aux-at-requires c κs = c .before .before .before .before .before .before .before .before .before .pre .section .within (c .before .before .before .loop .n) (c .before .before .loop-test .taken)
 
--- src/lib.rt:163:22
 array-read-x-code : tie.Need-array-read-x-code Inv-loop μ-loop
 array-read-x-code c = row-small _ (c .before .row .ensures)
 
--- src/lib.rt:164:22
 array-read-y-code : tie.Need-array-read-y-code Inv-loop μ-loop
 array-read-y-code c = row-small _ (c .before .row .ensures)
 
--- src/lib.rt:165:22
 wide-requires : tie.Need-wide-requires Inv-loop μ-loop
 wide-requires c κs = search needs
 
--- src/lib.rt:165:36
 x-bits-requires : tie.Need-x-bits-requires Inv-loop μ-loop
 x-bits-requires c κs = c .before .before .before .before .before .before .before .before .before .before .before .pre .section .within (c .before .before .before .before .before .loop .n) (c .before .before .before .before .loop-test .taken)
 
--- src/lib.rt:165:13
 look-requires : tie.Need-look-requires Inv-loop μ-loop
 unfolding basesOf
 look-requires c κs =
     x-look-ok _ (c .before .before .before .before .before .before .before .before .before .loop .n) _ (c .before .before .before .before .before .before .before .before .before .loop .inv .2) (c .before .before .before .x-bits .result) (omega (arith, c .before .before .before .x-bits .ok)) _ (c .before .before .before .before .before .before .before .before .before .loop .inv .1)
     (c .before .before .before .before .wide .ensures ∙ (column codeX (c .before .before .before .before .before .before .before .before .before .before .before .before .before .x-codes .ensures) (c .before .before .before .before .before .before .row .ensures) (c .before .before .before .before .before .before .before .kind-at .ensures)))
 
--- src/lib.rt:166:22
 wide-requires-2 : tie.Need-wide-requires-2 Inv-loop μ-loop
 wide-requires-2 c κs = search needs
 
--- src/lib.rt:166:36
 y-bits-requires : tie.Need-y-bits-requires Inv-loop μ-loop
 y-bits-requires c κs = c .before .before .before .before .before .before .before .before .before .before .before .before .before .before .before .before .before .pre .section .within (c .before .before .before .before .before .before .before .before .before .before .before .loop .n) (c .before .before .before .before .before .before .before .before .before .before .loop-test .taken)
 
--- src/lib.rt:166:13
 look-requires-2 : tie.Need-look-requires-2 Inv-loop μ-loop
 unfolding basesOf
 look-requires-2 c κs =
     y-look-ok _ (c .before .before .before .before .before .before .before .before .before .before .before .before .before .before .before .loop .n) _ (c .before .before .before .before .before .before .before .before .before .before .before .before .before .before .before .loop .inv .2) (c .before .before .before .y-bits .result) (omega (arith, c .before .before .before .y-bits .ok)) _ (c .before .before .before .before .before .before .before .before .before .before .before .before .before .before .before .loop .inv .1)
     (c .before .before .before .before .wide2 .ensures ∙ (column codeY (c .before .before .before .before .before .before .before .before .before .before .before .before .before .before .before .before .before .before .y-codes .ensures) (c .before .before .before .before .before .before .before .before .before .before .before .before .row .ensures) (c .before .before .before .before .before .before .before .before .before .before .before .before .before .kind-at .ensures)))
 
--- src/lib.rt:167:36
 array-read-make : tie.Need-array-read-make Inv-loop μ-loop
 array-read-make c = row-small _ (c .before .before .before .before .before .before .before .before .before .before .before .before .before .row .ensures)
 
--- src/lib.rt:167:48
 array-read-make-2 : tie.Need-array-read-make-2 Inv-loop μ-loop
 array-read-make-2 c = row-small _ (c .before .before .before .before .before .before .before .before .before .before .before .before .before .row .ensures)
 
--- src/lib.rt:167:13
 make-requires : tie.Need-make-requires Inv-loop μ-loop
 make-requires c κs = rw (column tagOf (c .before .before .before .before .before .before .before .before .before .before .before .before .before .before .before .before .before .before .yield-tags .ensures) (c .before .before .before .before .before .before .before .before .before .before .before .before .before .row .ensures) (c .before .before .before .before .before .before .before .before .before .before .before .before .before .before .kind-at .ensures)) (small-tag _)
 
--- src/lib.rt:169:25
 enum-known-made : tie.Need-enum-known-made Inv-loop μ-loop
 enum-known-made c = search needs
 
--- src/lib.rt:170:23
 add-facts : tie.Need-add-facts Inv-loop μ-loop
 add-facts c = omega (arith, c .before .before .before .before .before .before .before .before .before .before .before .before .before .before .before .before .before .before .before .loop-test .taken, c .before .before .before .before .before .before .before .before .before .before .before .before .before .before .before .before .before .before .before .before .before .before .before .before .before .before .pre .counted, c .before .before .before .before .before .before .before .before .before .before .before .before .before .before .before .before .before .before .before .before .loop .inv .2 .few-nodes)
 
--- src/lib.rt:170:17
 mul-facts : tie.Need-mul-facts Inv-loop μ-loop
 mul-facts c = omega (arith, c .before .before .before .before .before .before .before .before .before .before .before .before .before .before .before .before .before .before .before .loop-test .taken, c .before .before .before .before .before .before .before .before .before .before .before .before .before .before .before .before .before .before .before .before .before .before .before .before .before .before .pre .counted, c .before .before .before .before .before .before .before .before .before .before .before .before .before .before .before .before .before .before .before .before .loop .inv .2 .few-nodes)
 
--- src/lib.rt:170:17
 element-write-facts : tie.Need-element-write-facts Inv-loop μ-loop
 element-write-facts c = omega (arith, c .before .before .before .before .before .before .before .before .before .before .before .before .before .before .before .before .before .before .before .loop-test .taken, c .before .before .before .before .before .before .before .before .before .before .before .before .before .before .before .before .before .before .before .before .before .before .before .before .before .before .pre .counted, c .before .before .before .before .before .before .before .before .before .before .before .before .before .before .before .before .before .before .before .before .loop .inv .2 .few-nodes)
 
--- src/lib.rt:171:29
 add-limits : tie.Need-add-limits Inv-loop μ-loop
 add-limits c = omega (arith, c .before .before .before .before .before .before .before .before .before .before .before .before .before .before .before .before .before .before .before .loop-test .taken, c .before .before .before .before .before .before .before .before .before .before .before .before .before .before .before .before .before .before .before .before .before .before .before .before .before .before .pre .counted, c .before .before .before .before .before .before .before .before .before .before .before .before .before .before .before .before .before .before .before .before .loop .inv .2 .few-nodes)
 
--- src/lib.rt:171:17
 array-write-limits : tie.Need-array-write-limits Inv-loop μ-loop
 array-write-limits c = search needs
 
--- src/lib.rt:172:30
 add-limits-2 : tie.Need-add-limits-2 Inv-loop μ-loop
 add-limits-2 c = omega (arith, c .before .before .before .before .before .before .before .before .before .before .before .before .before .before .before .before .before .before .before .loop-test .taken, c .before .before .before .before .before .before .before .before .before .before .before .before .before .before .before .before .before .before .before .before .before .before .before .before .before .before .pre .counted, c .before .before .before .before .before .before .before .before .before .before .before .before .before .before .before .before .before .before .before .before .loop .inv .2 .few-nodes)
 
--- src/lib.rt:172:17
 array-write-limits-2 : tie.Need-array-write-limits-2 Inv-loop μ-loop
 array-write-limits-2 c = search needs
 
--- src/lib.rt:175:62
 enum-told : tie.Need-enum-told Inv-loop μ-loop
 enum-told c = search needs
 
--- src/lib.rt:175:62
 cast-node-fault : tie.Need-cast-node-fault Inv-loop μ-loop
 cast-node-fault c = omega (arith, c .before .before .before .before .before .before .before .before .before .before .before .before .before .before .before .before .before .before .before .before .before .before .before .before .before .pre .section .within (c .before .before .before .before .before .before .before .before .before .before .before .before .before .before .before .before .before .before .before .loop .n) (c .before .before .before .before .before .before .before .before .before .before .before .before .before .before .before .before .before .before .loop-test .taken), c .before .before .before .before .before .before .before .before .before .before .before .before .before .before .before .before .before .before .before .before .before .before .before .before .before .pre .section .few)
 
--- src/lib.rt:175:17
 node-fault-requires : tie.Need-node-fault-requires Inv-loop μ-loop
 node-fault-requires c κs = search needs
 
--- src/lib.rt:175:17
 returns : tie.Need-returns Inv-loop μ-loop
 unfolding basesOf
 returns c =
@@ -189,15 +143,12 @@ returns c =
       all-known = λ e. absurd (Option·some-ne-none _ (sym (c .node-fault .ensures) ∙ e));
     }
 
--- src/lib.rt:159:9
 add-n : tie.Need-add-n Inv-loop μ-loop
 add-n c = omega (arith, c .before .before .before .before .before .before .before .before .before .before .before .before .before .before .before .before .before .before .before .loop-test .taken, c .before .before .before .before .before .before .before .before .before .before .before .before .before .before .before .before .before .before .before .before .before .before .before .before .before .before .pre .counted, c .before .before .before .before .before .before .before .before .before .before .before .before .before .before .before .before .before .before .before .before .loop .inv .2 .few-nodes)
 
--- src/lib.rt:159:5
 loop-less : tie.Need-loop-less Inv-loop μ-loop
 loop-less c = omega (arith, c .before .before .before .before .before .before .before .before .before .before .before .before .before .before .before .before .before .before .before .loop-test .taken)
 
--- src/lib.rt:159:5
 loop-again : tie.Need-loop-again Inv-loop μ-loop
 unfolding basesOf
 loop-again c =
@@ -215,7 +166,6 @@ loop-again c =
       first-more _ _ (c .before .before .before .before .before .before .before .before .before .before .before .before .before .before .before .before .before .before .before .before .loop .n) (c .before .before .before .before .before .before .before .before .before .before .before .before .before .before .before .before .before .before .before .before .loop .inv .3) (made .0),
     )
 
--- src/lib.rt:149:1
 returns-2 : tie.Need-returns-2 Inv-loop μ-loop
 returns-2 c =
     let e : c .before .loop .n ≡ nodeCount (now (c .before .before .before .before .before .before .before .args .table)) = omega (arith, c .before .before .before .before .before .before .before .pre .counted) in

@@ -1,12 +1,12 @@
 -- `nodes::nodes_and_constraints` meets its contract: the facts of the declarations are those before the first node.
 -- Assumes nothing.
-use mathlib.Core.Path.{_≡_, refl, sym, _∙_, ap}
+use mathlib.Core.Path.{refl, sym, _∙_, ap}
 use native.Mathlib.Omega.{arith}
 use borrow.Author.Needs.{needs}
 use borrow.Author.Tests.{not-true, not-false}
 use lib.ListN.{length}
 use Rattle.answers.specs.Sections.{variablesAt}
-use Rattle.answers.proofs.FirstFault.{orElse-none}
+use Rattle.answers.proofs.Faults.{orElse-none}
 use Rattle.sections.proofs.Bounds.{variables-section, nodes-section, constraints-section, slots-behind, arrays-behind, constraints-behind, rest-behind, slots-place, arrays-place, array-count, nodes-place, constraints-place, rest-place, variables-counted, slots-counted, nodes-counted, constraints-counted}
 use Rattle.verdict.proofs.Soundness.{sound-none, unsound-decides}
 use Rattle.nodes.specs.Known.{bodyFault}

@@ -5,18 +5,19 @@ use Prim.Native.Nat.{_-_, _≤_}
 use native.Mathlib.Omega.{arith}
 use lib.ListN.{getD}
 use Rattle.numbers.specs.Limits.{mostBytes}
-use Rattle.preparation.proofs.Stored.{Stored, stored-none, stored-more, stored-padded}
+use Rattle.preparation.proofs.Stored.{stored-padded}
+use Rattle.numbers.proofs.Lists.{Filled, filled-none, filled-more}
 use Rattle.preparation.proofs.fill.Statement.{statement}
 use Rattle.preparation.proofs.fill.Tie as tie
 
 abbrev Inv-loop : tie.InvT-loop
-Inv-loop t₀ table end i₀ t i = Stored (λ k. getD table k 0) mostBytes t i × (i ≤ end)
+Inv-loop t₀ table end i₀ t i = Filled 0 mostBytes (λ k. getD table k 0) t i × (i ≤ end)
 
 abbrev μ-loop : tie.MeasureT-loop
 μ-loop t₀ table end i₀ t i = end - i
 
 loop-holds : tie.Need-loop-holds Inv-loop μ-loop
-loop-holds c = (stored-none _ (c .pre .0), omega arith)
+loop-holds c = (filled-none _ _ _ (c .pre .0), omega arith)
 
 shared-slice-read-t : tie.Need-shared-slice-read-t Inv-loop μ-loop
 shared-slice-read-t c = omega arith
@@ -31,7 +32,7 @@ loop-less : tie.Need-loop-less Inv-loop μ-loop
 loop-less c = omega arith
 
 loop-again : tie.Need-loop-again Inv-loop μ-loop
-loop-again c = (stored-more _ (c .before .before .loop .inv .0) (omega (arith, c .before .before .before .pre .1)) refl, omega arith)
+loop-again c = (filled-more _ _ _ (c .before .before .loop .inv .0) (omega (arith, c .before .before .before .pre .1)) refl, omega arith)
 
 returns : tie.Need-returns Inv-loop μ-loop
 returns c = stored-padded _ (c .before .loop .inv .0) (omega arith) (c .before .before .pre .1)

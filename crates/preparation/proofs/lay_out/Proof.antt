@@ -4,13 +4,14 @@ use mathlib.Core.Path.{refl, _∙_}
 use Prim.Native.Nat.{_-_, _≤_}
 use native.Mathlib.Omega.{arith}
 use borrow.Author.Needs.{needs}
-use Rattle.preparation.proofs.Stored.{Stored, placeAt, place-array, stored-none, stored-more, array-few, places-laid}
+use Rattle.preparation.proofs.Stored.{placeAt, place-array, array-few, places-laid}
+use Rattle.numbers.proofs.Lists.{Filled, filled-none, filled-more}
 use Rattle.layout.proofs.Order.{laid}
 use Rattle.preparation.proofs.lay_out.Statement.{statement}
 use Rattle.preparation.proofs.lay_out.Tie as tie
 
 abbrev Inv-loop : tie.InvT-loop
-Inv-loop s at arrays places₀ a₀ places a = Stored (placeAt s) 69 places a × (a ≤ 64)
+Inv-loop s at arrays places₀ a₀ places a = Filled 0 69 (placeAt s) places a × (a ≤ 64)
 
 abbrev μ-loop : tie.MeasureT-loop
 μ-loop s at arrays places₀ a₀ places a = 64 - a
@@ -19,7 +20,7 @@ array-records-requires : tie.Need-array-records-requires Inv-loop μ-loop
 array-records-requires c κs = search needs
 
 loop-holds : tie.Need-loop-holds Inv-loop μ-loop
-loop-holds c = (stored-none _ refl, omega arith)
+loop-holds c = (filled-none _ _ _ refl, omega arith)
 
 mul-places : tie.Need-mul-places Inv-loop μ-loop
 mul-places c = search needs
@@ -43,7 +44,7 @@ loop-less : tie.Need-loop-less Inv-loop μ-loop
 loop-less c = search needs
 
 loop-again : tie.Need-loop-again Inv-loop μ-loop
-loop-again c = (stored-more _ (c .before .loop .inv .0) (omega arith) (c .before .before .array-records .ensures .held (c .before .loop .a) ∙ place-array _ (c .before .loop .a) (omega arith)), omega arith)
+loop-again c = (filled-more _ _ _ (c .before .loop .inv .0) (omega arith) (c .before .before .array-records .ensures .held (c .before .loop .a) ∙ place-array _ (c .before .loop .a) (omega arith)), omega arith)
 
 sub-slot-count : tie.Need-sub-slot-count Inv-loop μ-loop
 sub-slot-count c = let e = c .before .before .before .before .before in let l = laid (e .args .s .now) (e .pre .0) (e .pre .1) in omega (arith, l, l .order, e .pre .0)

@@ -6,7 +6,6 @@ use Prim.Native.Nat.{ℕ}
 use Rattle.table.specs.Records.{VR, SL, ND, CN}
 use Rattle.table.specs.Marks.{markOf}
 use Rattle.answers.specs.Sections.{endOf, variablesAt, slotsAt, arraysAt, arrayRecords, nodesAt, constraintsAt, restAt}
-use Rattle.sections.specs.declared.Places.{Places}
 use Rattle.sections.specs.declared.ArrayRun.{ArrayRun}
 use Rattle.sections.specs.Places.{arrayRunOf, placesOf}
 use borrow.Author.Needs.{needs}

@@ -10,7 +10,7 @@ use lib.ListN.{getD}
 use Rattle.language.specs.Tables.{treeAt}
 use Rattle.language.specs.Meaning.{slotAt, count}
 use Rattle.language.specs.Steps.{cost}
-use Rattle.answers.specs.Sections.{declarations, nodeTrees, nodeCount, nodesAt}
+use Rattle.answers.specs.Sections.{declarations, nodeTrees, nodeCount}
 use Rattle.table.specs.Records.{recordCount}
 use Rattle.layout.proofs.Checked.{checked}
 use Rattle.layout.proofs.Order.{laid}

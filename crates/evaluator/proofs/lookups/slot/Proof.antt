@@ -5,12 +5,11 @@ use mathlib.Core.Path.{_≡_, sym}
 use Prim.Native.Nat.{ℕ, _≤_}
 use mathlib.Core.List.{List}
 use lib.IntN.{ℤ, pos}
-use lib.ListN.{length, getD}
+use lib.ListN.{length, getD, List·getD-eq-default}
 use mir.Syntax.{w32}
 use mir.Val.{SFits, toZ, ofZ}
 use mir.Facts.{toZ-ofZ}
 use Rattle.evaluator.specs.Walks.{settingOf}
-use Rattle.evaluator.proofs.Declared.{past-end}
 use Rattle.evaluator.proofs.lookups.slot.Statement.{statement}
 use Rattle.evaluator.proofs.lookups.slot.Tie as tie
 
@@ -20,7 +19,7 @@ inside xs i f = toZ-ofZ f
 
 outside : (xs : List ℤ) (i : ℕ) → length xs ≤ i → pos 0 ≡ settingOf xs i
 unfolding settingOf
-outside xs i h = sym (past-end xs i (pos 0) h)
+outside xs i h = sym (List·getD-eq-default xs (pos 0) {n = i} h)
 
 cast-i : tie.Need-cast-i
 cast-i c = search needs

@@ -1,7 +1,7 @@
 -- `layout::fields::named` meets its contract.
 -- Assumes nothing.
 use native.Mathlib.Omega.{arith}
-use Rattle.layout.proofs.Words.{signed-low, signed-high}
+use Rattle.table.proofs.Signs.{signed-low, signed-high}
 use borrow.Author.Needs.{needs}
 use Rattle.layout.proofs.fields.named.Statement.{statement}
 use Rattle.layout.proofs.fields.named.Tie as tie

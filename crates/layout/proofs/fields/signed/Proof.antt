@@ -3,7 +3,8 @@
 use native.Mathlib.Omega.{arith}
 use mir.Syntax.{w64}
 use mir.Facts.{toZ-pos, toZ-ofZ}
-use Rattle.layout.proofs.Words.{signed-low, less-high, signed-fits}
+use Rattle.layout.proofs.Words.{less-high, signed-fits}
+use Rattle.table.proofs.Signs.{signed-low}
 use borrow.Author.Needs.{needs}
 use Rattle.layout.proofs.fields.signed.Statement.{statement}
 use Rattle.layout.proofs.fields.signed.Tie as tie

@@ -11,7 +11,8 @@ use lib.IntN.{ℤ, pos, _+ℤ_, natAbs}
 use mir.Syntax.{w32, w64}
 use mir.Val.{SFits, toZ, ofZ}
 use mir.Facts.{toZ-ofZ}
-use Rattle.numbers.proofs.Widths.{through, widened, arrives, natAbs-fits, natAbs→fits, natAbs-+}
+use Rattle.numbers.proofs.Magnitudes.{natAbs→fits, natAbs-+-≤}
+use Rattle.numbers.proofs.Widths.{through, widened, arrives, natAbs-fits}
 use Rattle.language.specs.Readings.{both}
 use Rattle.operations.specs.declared.values.Walked.{Walked}
 use Rattle.operations.specs.declared.sums.Total.{Total}
@@ -35,7 +36,7 @@ module _ (t : Total) (a : Walked) where
     sum-is = rw (toZ-ofZ g, arrives x f)
 
     sum-small : natAbs (t .sum +ℤ x) ≤ natAbs (t .sum) + 2 ^ 31
-    sum-small = omega (arith, natAbs-+ (t .sum) x, natAbs-fits x f)
+    sum-small = omega (arith, natAbs-+-≤ (t .sum) x, natAbs-fits x f)
 
     sum-fits : SFits w64 (toZ w64 (ofZ w64 (t .sum)) +ℤ through x)
     sum-fits = rw sum-is (natAbs→fits (t .sum +ℤ x) (omega (arith, sum-small)))

@@ -1,26 +1,30 @@
--- The numbers of refusals: each call gives those that document 01 lists for it, and a refusal is never 0.
+-- The numbers of refusals: those of each fault pass any test that the numbers which document 01 lists for it pass.
 -- Assumes nothing.
-use Prim.Native.Nat.{ℕ, zero, suc, _+_, _*_}
+use Prim.Native.Nat.{ℕ, zero, suc, _+_, _*_, _≤_}
 use mathlib.Core.Bool.{Bool, true, false, cond, _&&_}
 use mathlib.Core.List.{List}
 use mathlib.Core.Option.{Option, none, some, Option·map, orElse}
-use lib.Dec.{T, eqb, leb, ltb}
+use lib.Dec.{T, eqb, leb, ltb, leb→le}
 use lib.IntN.{natAbs}
 use lib.ListN.{length}
 use Rattle.numbers.specs.Limits.{mostBytes}
+use Rattle.numbers.proofs.Tests.{&&-fst}
 use Rattle.language.specs.Syntax.{Sort}
 use Rattle.language.specs.Readings.{Reading}
 use Rattle.language.specs.Meaning.{Assignment}
 use Rattle.table.specs.Records.{AR, recordSize, recordCount, marked, kindAt, yAt}
 use Rattle.table.specs.Kinds.{Kind, kindOf}
 use Rattle.answers.specs.Sections.{sortOfKind, behindArray, restAt, declarations}
 use Rattle.answers.specs.Check.{Refusal, refuse, unless, firstFault, headerFault, variableFault, slotFault, arrayFault, elementFault, kindFault, nodeFault, constraintFault, arraysFault, restFault, lengthAllowed, lengthFault, checkFault}
 use Rattle.answers.specs.Answers.{assignmentFault, boundsFault, newCount, roomFault}
-use Rattle.demands.specs.Demands.{refuseUnless}
 
 -- a number from 1 to `most`
 abbrev pub upTo : ℕ → ℕ → Bool
 upTo most n = leb 1 n && leb n most
+
+-- It is not 0.
+pub upTo→1≤ : (most : ℕ) {n : ℕ} → T (upTo most n) → 1 ≤ n
+upTo→1≤ most {n} t = leb→le 1 n (&&-fst (leb 1 n) (leb n most) t)
 
 -- A record's own fault, and a refusal, has a number that passes the test, where there is one.
 abbrev Own : (ℕ → Bool) → Option ℕ → Type 0
@@ -49,8 +53,7 @@ module _ (ok : ℕ → Bool) where
   Numbered-orElse none b p q = q
   Numbered-orElse (some x) b p q = p
 
-  pub Numbered-unless : (n : ℕ) (b : Bool) → T (ok n) → Numbered ok (refuseUnless n b)
-  unfolding refuseUnless
+  pub Numbered-unless : (n : ℕ) (b : Bool) → T (ok n) → Numbered ok (cond b none (refuse n 0))
   Numbered-unless n true h = tt
   Numbered-unless n false h = h
 
@@ -76,7 +79,7 @@ module _ (ok : ℕ → Bool) where
 
   -- 9,
   pub Numbered-room : (table : List ℕ) (ρ : Reading) (room : ℕ) → T (ok 9) → Numbered ok (roomFault table ρ room)
-  unfolding roomFault refuseUnless
+  unfolding roomFault
   Numbered-room table ρ room h = Numbered-unless 9 (leb (recordSize * newCount table ρ) room && leb (recordSize * newCount table ρ) mostBytes) h
 
   -- and 10.
@@ -151,7 +154,7 @@ module _ (ok : ℕ → Bool) where
         go false = tt
 
     pub Numbered-check : Numbered ok (checkFault table)
-    unfolding checkFault lengthFault refuseUnless
+    unfolding checkFault lengthFault
     Numbered-check =
         Numbered-orElse _ _ (Numbered-unless 1 (lengthAllowed table) ok1)
         (Numbered-orElse _ _ (Numbered-firstFault _ _ _ (λ i. Own-header 0))
