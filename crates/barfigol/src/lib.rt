@@ -1,7 +1,6 @@
 // The library for C and Rust, as include/barfigol.h declares it. A slice is a pointer and a length there.
 ghost use mathlib.Core.Path.{_≡_};
 ghost use Rattle.answers.specs.Answers as Answers;
-ghost use Rattle.answers.specs.Answers.{refused};
 ghost use Rattle.verdict.specs.Results as Verdict;
 ghost use Rattle.evaluation.specs.Results as Evaluated;
 ghost use Rattle.translation.specs.Results as Translated;
@@ -25,31 +24,16 @@ pub struct Answer {
     pub all_true: bool,
 }
 
-// A refusal with its number and its record; 0 and 0 is done.
-fn refusal(number: u32, at: u32) -> Answer
-    ensures { λ r. ⌜ answerOf r ≡ refused (record { number = number; at = at }) ⌝ }
-{
-    Answer {
-        number,
-        record: at,
-        steps: 0,
-        length: 0,
-        all_true: false,
-    }
-}
-
 // What a check says, in numbers.
 fn checked(check: Check) -> Answer
     ensures { λ r. ⌜ answerOf r ≡ Verdict.answerOf check ⌝ }
 {
-    match check {
-        Check::Sound => refusal(0, 0),
-        Check::BadLength => refusal(1, 0),
-        Check::Misplaced(k) => refusal(2, k),
-        Check::NotAllowed(k) => refusal(3, k),
-        Check::NamesNothing(k) => refusal(4, k),
-        Check::WrongType(k) => refusal(5, k),
-        Check::OpenConstraint(k) => refusal(6, k),
+    Answer {
+        number: verdict::number(check),
+        record: verdict::record(check),
+        steps: 0,
+        length: 0,
+        all_true: false,
     }
 }
 
@@ -57,20 +41,13 @@ fn checked(check: Check) -> Answer
 fn evaluated(evaluation: Evaluation) -> Answer
     ensures { λ r. ⌜ answerOf r ≡ Evaluated.answerOf evaluation ⌝ }
 {
-    match evaluation {
-        Evaluation::Done(totals) => Answer {
-            number: 0,
-            record: 0,
-            steps: totals.steps,
-            length: totals.written,
-            all_true: totals.all,
-        },
-        Evaluation::BadChoice => refusal(7, 0),
-        Evaluation::Unsound(check) => checked(check),
-        Evaluation::Unassigned(p) => refusal(10, p),
-        Evaluation::NoRoom => refusal(9, 0),
-        Evaluation::OverBudget => refusal(11, 0),
-        Evaluation::BeyondLimit => refusal(8, 0),
+    let totals = evaluation::totals_of(evaluation);
+    Answer {
+        number: evaluation::number(evaluation),
+        record: evaluation::record(evaluation),
+        steps: totals.steps,
+        length: totals.written,
+        all_true: totals.all,
     }
 }
 
@@ -78,18 +55,12 @@ fn evaluated(evaluation: Evaluation) -> Answer
 fn translated(translation: Translation) -> Answer
     ensures { λ r. ⌜ answerOf r ≡ Translated.answerOf translation ⌝ }
 {
-    match translation {
-        Translation::Done(length) => Answer {
-            number: 0,
-            record: 0,
-            steps: 0,
-            length,
-            all_true: false,
-        },
-        Translation::BadChoice => refusal(7, 0),
-        Translation::Unsound(check) => checked(check),
-        Translation::Beyond(p) => refusal(8, p),
-        Translation::NoRoom => refusal(9, 0),
+    Answer {
+        number: translation::number(translation),
+        record: translation::record(translation),
+        steps: 0,
+        length: translation::length(translation),
+        all_true: false,
     }
 }
 

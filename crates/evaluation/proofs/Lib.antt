@@ -1,2 +1,3 @@
 pub mod Copied
+pub mod Numbers
 pub mod Outcomes

@@ -10,7 +10,7 @@ ghost use Rattle.answers.specs.Answers as Answers;
 ghost use Rattle.answers.specs.Answers.{assignmentFault, totalCost, evaluateUnder};
 ghost use Rattle.layout.specs.Places.{layoutOf};
 ghost use Rattle.reading.specs.Readings.{meant};
-ghost use Rattle.evaluation.specs.Results.{outcomeOf};
+ghost use Rattle.evaluation.specs.Results.{answerOf, outcomeOf};
 ghost use Rattle.evaluation.specs.Admissions.{outcomeAfter, Admits};
 use assignment::Assigned;
 use assignment::check_assignment;
@@ -185,5 +185,57 @@ pub fn evaluate(
     match reading_of(choice) {
         Choice::Under(reading) => evaluate_under(reading, table, assignment, budget, verdicts),
         Choice::Nothing => Evaluation::BadChoice,
+    }
+}
+
+// Document 01's number for what an evaluation answers.
+pub fn number(e: Evaluation) -> u32
+    ensures { λ r. ⌜ r ≡ answerOf e .number ⌝ }
+{
+    match e {
+        Evaluation::Done(_) => 0,
+        Evaluation::BadChoice => 7,
+        Evaluation::Unsound(c) => verdict::number(c),
+        Evaluation::Unassigned(_) => 10,
+        Evaluation::NoRoom => 9,
+        Evaluation::OverBudget => 11,
+        Evaluation::BeyondLimit => 8,
+    }
+}
+
+// The record that a refusal is about; 0 where there is none.
+pub fn record(e: Evaluation) -> u32
+    ensures { λ r. ⌜ r ≡ answerOf e .at ⌝ }
+{
+    match e {
+        Evaluation::Done(_) => 0,
+        Evaluation::BadChoice => 0,
+        Evaluation::Unsound(c) => verdict::record(c),
+        Evaluation::Unassigned(k) => k,
+        Evaluation::NoRoom => 0,
+        Evaluation::OverBudget => 0,
+        Evaluation::BeyondLimit => 0,
+    }
+}
+
+// The total steps, how many bytes are written, and whether all are 1; after a refusal 0, 0 and false.
+pub fn totals_of(e: Evaluation) -> Totals
+    ensures { λ r. ⌜ r .steps ≡ answerOf e .steps ⌝ }
+    ensures { λ r. ⌜ r .written ≡ answerOf e .length-written ⌝ }
+    ensures { λ r. ⌜ r .all ≡ answerOf e .all-true ⌝ }
+{
+    let refused = Totals {
+        steps: 0,
+        written: 0,
+        all: false,
+    };
+    match e {
+        Evaluation::Done(t) => t,
+        Evaluation::BadChoice => refused,
+        Evaluation::Unsound(_) => refused,
+        Evaluation::Unassigned(_) => refused,
+        Evaluation::NoRoom => refused,
+        Evaluation::OverBudget => refused,
+        Evaluation::BeyondLimit => refused,
     }
 }

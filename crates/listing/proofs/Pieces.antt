@@ -1,4 +1,4 @@
--- The parts of an answer and of the input.
+-- The text by an answer's number, and the parts of the input.
 -- Assumes nothing.
 use mathlib.Core.Path.{_≡_, refl, ap, _∙_}
 use Prim.Native.Nat.{ℕ, suc, _+_, _-_, _/_, _≤_, _<_}
@@ -7,25 +7,10 @@ use mathlib.Core.List.{List, [], _∷_, _++_}
 use borrow.Author.Tests.{le-leb, lt-leb, ne-eqb}
 use lib.ListN.{length, take, drop, getD}
 use lib.Seq.{sets, sets-eq, take-length}
-use Rattle.answers.specs.Answers.{done, refused}
 use Rattle.answers.specs.Listing.{linesOf, choiceOf, listingOf, listing}
-use Rattle.verdict.specs.declared.Check.{Check}
-use Rattle.verdict.specs.declared.Check.the-variants.{Sound, BadLength, Misplaced, NotAllowed, NamesNothing, WrongType, OpenConstraint}
-use Rattle.verdict.specs.Results.{answerOf}
 use Rattle.table.specs.Records.{recordSize}
 use Rattle.lines.specs.Pieces.{refusalText}
 use Rattle.listing.specs.Texts.{longestText, textFor}
-
--- The check writes nothing.
-pub check-writes-nothing : (c : Check) → answerOf c .length-written ≡ 0
-unfolding answerOf done refused
-check-writes-nothing Sound = refl
-check-writes-nothing BadLength = refl
-check-writes-nothing (Misplaced k) = refl
-check-writes-nothing (NotAllowed k) = refl
-check-writes-nothing (NamesNothing k) = refl
-check-writes-nothing (WrongType k) = refl
-check-writes-nothing (OpenConstraint k) = refl
 
 -- ---- the text by the answer's number
 

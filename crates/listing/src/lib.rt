@@ -5,88 +5,17 @@ ghost use Prim.Native.Nat.{_≤_};
 ghost use lib.ListN.{length, drop};
 ghost use lib.Seq.{sets};
 ghost use Rattle.numbers.specs.Limits.{mostBytes};
-ghost use Rattle.verdict.specs.Results as Verdict;
-ghost use Rattle.translation.specs.Results.{answerOf};
 ghost use Rattle.answers.specs.Listing.{choiceOf, listingOf, listing};
 ghost use Rattle.listing.specs.Texts.{longestText, textFor};
 use lines::put_lines;
 use lines::put_refusal;
 use table::RECORD_SIZE;
-use translation::Translation;
 use translation::translate;
-use verdict::Check;
 
 const MOST_BYTES: usize = 60_000;
 
 // The longest text.
 pub const MOST_TEXT: usize = 175_000;
-
-// Document 01's number for what the check says.
-fn check_number(c: Check) -> u32
-    ensures { λ r. ⌜ r ≡ Verdict.answerOf c .number ⌝ }
-{
-    match c {
-        Check::Sound => 0,
-        Check::BadLength => 1,
-        Check::Misplaced(_) => 2,
-        Check::NotAllowed(_) => 3,
-        Check::NamesNothing(_) => 4,
-        Check::WrongType(_) => 5,
-        Check::OpenConstraint(_) => 6,
-    }
-}
-
-// The record of the fault that the check found.
-fn check_record(c: Check) -> u32
-    ensures { λ r. ⌜ r ≡ Verdict.answerOf c .at ⌝ }
-{
-    match c {
-        Check::Sound => 0,
-        Check::BadLength => 0,
-        Check::Misplaced(k) => k,
-        Check::NotAllowed(k) => k,
-        Check::NamesNothing(k) => k,
-        Check::WrongType(k) => k,
-        Check::OpenConstraint(k) => k,
-    }
-}
-
-// Number, record and length of a translation's answer.
-fn number_of(t: Translation) -> u32
-    ensures { λ r. ⌜ r ≡ answerOf t .number ⌝ }
-{
-    match t {
-        Translation::Done(_) => 0,
-        Translation::BadChoice => 7,
-        Translation::Unsound(c) => check_number(c),
-        Translation::Beyond(_) => 8,
-        Translation::NoRoom => 9,
-    }
-}
-
-fn record_of(t: Translation) -> u32
-    ensures { λ r. ⌜ r ≡ answerOf t .at ⌝ }
-{
-    match t {
-        Translation::Done(_) => 0,
-        Translation::BadChoice => 0,
-        Translation::Unsound(c) => check_record(c),
-        Translation::Beyond(k) => k,
-        Translation::NoRoom => 0,
-    }
-}
-
-fn length_of(t: Translation) -> u32
-    ensures { λ r. ⌜ r ≡ answerOf t .length-written ⌝ }
-{
-    match t {
-        Translation::Done(n) => n,
-        Translation::BadChoice => 0,
-        Translation::Unsound(_) => 0,
-        Translation::Beyond(_) => 0,
-        Translation::NoRoom => 0,
-    }
-}
 
 // The records of the new table, of `written` bytes, or the refusal.
 fn put_text(number: u32, at: u32, written: usize, new: &[u8], text: &mut [u8]) -> usize
@@ -113,8 +42,14 @@ fn list_table(choice: u32, table: &[u8], text: &mut [u8]) -> usize
 {
     let mut new = [0u8; MOST_BYTES];
     let t = translate(choice, table, &mut new);
-    let written = length_of(t);
-    put_text(number_of(t), record_of(t), written as usize, &new, text)
+    let written = translation::length(t);
+    put_text(
+        translation::number(t),
+        translation::record(t),
+        written as usize,
+        &new,
+        text,
+    )
 }
 
 // "one digit of choice (any other byte, or none, counts as choice 0)"

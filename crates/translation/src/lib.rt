@@ -18,7 +18,7 @@ ghost use Rattle.bounds.specs.Kept.{refusalOf};
 ghost use Rattle.layout.specs.Passed.{Passed};
 ghost use Rattle.layout.specs.Places.{layoutOf};
 ghost use Rattle.reading.specs.Readings.{meant};
-ghost use Rattle.translation.specs.Results.{recordBeyond, outcomeOf};
+ghost use Rattle.translation.specs.Results.{recordBeyond, answerOf, outcomeOf};
 ghost use Rattle.translation.specs.Fronts.{front};
 use bounds::Bounds;
 use bounds::check_bounds;
@@ -156,5 +156,44 @@ pub fn translate(choice: u32, table: &[u8], out: &mut [u8]) -> Translation
     match reading_of(choice) {
         Choice::Under(reading) => translate_under(reading, table, out),
         Choice::Nothing => Translation::BadChoice,
+    }
+}
+
+// Document 01's number for what a translation answers.
+pub fn number(t: Translation) -> u32
+    ensures { λ r. ⌜ r ≡ answerOf t .number ⌝ }
+{
+    match t {
+        Translation::Done(_) => 0,
+        Translation::BadChoice => 7,
+        Translation::Unsound(c) => verdict::number(c),
+        Translation::Beyond(_) => 8,
+        Translation::NoRoom => 9,
+    }
+}
+
+// The record that a refusal is about; 0 where there is none.
+pub fn record(t: Translation) -> u32
+    ensures { λ r. ⌜ r ≡ answerOf t .at ⌝ }
+{
+    match t {
+        Translation::Done(_) => 0,
+        Translation::BadChoice => 0,
+        Translation::Unsound(c) => verdict::record(c),
+        Translation::Beyond(k) => k,
+        Translation::NoRoom => 0,
+    }
+}
+
+// How many bytes are written.
+pub fn length(t: Translation) -> u32
+    ensures { λ r. ⌜ r ≡ answerOf t .length-written ⌝ }
+{
+    match t {
+        Translation::Done(n) => n,
+        Translation::BadChoice => 0,
+        Translation::Unsound(_) => 0,
+        Translation::Beyond(_) => 0,
+        Translation::NoRoom => 0,
     }
 }

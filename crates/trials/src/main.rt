@@ -95,47 +95,24 @@ fn say_answer(number: u32, record: u32) {
 }
 
 fn say_check(c: Check) {
-    match c {
-        Check::Sound => say_answer(0, 0),
-        Check::BadLength => say_answer(1, 0),
-        Check::Misplaced(k) => say_answer(2, k),
-        Check::NotAllowed(k) => say_answer(3, k),
-        Check::NamesNothing(k) => say_answer(4, k),
-        Check::WrongType(k) => say_answer(5, k),
-        Check::OpenConstraint(k) => say_answer(6, k),
-    }
-}
-
-fn say_done(length: u32) {
-    say_answer(0, 0);
-    say(length);
+    say_answer(verdict::number(c), verdict::record(c));
 }
 
 fn say_translation(t: Translation) {
-    match t {
-        Translation::Done(length) => say_done(length),
-        Translation::BadChoice => say_answer(7, 0),
-        Translation::Unsound(c) => say_check(c),
-        Translation::Beyond(k) => say_answer(8, k),
-        Translation::NoRoom => say_answer(9, 0),
+    let number = translation::number(t);
+    say_answer(number, translation::record(t));
+    if number == 0 {
+        say(translation::length(t));
     }
 }
 
-fn say_totals(steps: u32, all: bool) {
-    say_answer(0, 0);
-    say(steps);
-    say(if all { 1 } else { 0 });
-}
-
 fn say_evaluation(e: Evaluation) {
-    match e {
-        Evaluation::Done(totals) => say_totals(totals.steps, totals.all),
-        Evaluation::BadChoice => say_answer(7, 0),
-        Evaluation::Unsound(c) => say_check(c),
-        Evaluation::Unassigned(k) => say_answer(10, k),
-        Evaluation::NoRoom => say_answer(9, 0),
-        Evaluation::OverBudget => say_answer(11, 0),
-        Evaluation::BeyondLimit => say_answer(8, 0),
+    let number = evaluation::number(e);
+    say_answer(number, evaluation::record(e));
+    if number == 0 {
+        let totals = evaluation::totals_of(e);
+        say(totals.steps);
+        say(if totals.all { 1 } else { 0 });
     }
 }
 

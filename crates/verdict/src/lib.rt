@@ -1,6 +1,6 @@
 // What the check says of a table.
 ghost use mathlib.Core.Path.{_≡_};
-ghost use Rattle.verdict.specs.Results.{refusalOf, isNone};
+ghost use Rattle.verdict.specs.Results.{refusalOf, answerOf, isNone};
 
 // Each case but `Sound` and `BadLength` has the record of the fault.
 pub enum Check {
@@ -30,5 +30,35 @@ pub fn is_sound(c: Check) -> bool
         Check::NamesNothing(_) => false,
         Check::WrongType(_) => false,
         Check::OpenConstraint(_) => false,
+    }
+}
+
+// Document 01's number for what the check says.
+pub fn number(c: Check) -> u32
+    ensures { λ r. ⌜ r ≡ answerOf c .number ⌝ }
+{
+    match c {
+        Check::Sound => 0,
+        Check::BadLength => 1,
+        Check::Misplaced(_) => 2,
+        Check::NotAllowed(_) => 3,
+        Check::NamesNothing(_) => 4,
+        Check::WrongType(_) => 5,
+        Check::OpenConstraint(_) => 6,
+    }
+}
+
+// The record of the fault that the check found; 0 where there is none.
+pub fn record(c: Check) -> u32
+    ensures { λ r. ⌜ r ≡ answerOf c .at ⌝ }
+{
+    match c {
+        Check::Sound => 0,
+        Check::BadLength => 0,
+        Check::Misplaced(k) => k,
+        Check::NotAllowed(k) => k,
+        Check::NamesNothing(k) => k,
+        Check::WrongType(k) => k,
+        Check::OpenConstraint(k) => k,
     }
 }

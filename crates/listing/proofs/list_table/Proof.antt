@@ -17,14 +17,14 @@ slice-aggregate-translate c = search needs
 translate-requires : tie.Need-translate-requires
 translate-requires c κs = search needs
 
-length-of-requires : tie.Need-length-of-requires
-length-of-requires c κs = search needs
+length-requires : tie.Need-length-requires
+length-requires c κs = search needs
 
-number-of-requires : tie.Need-number-of-requires
-number-of-requires c κs = search needs
+number-requires : tie.Need-number-requires
+number-requires c κs = search needs
 
-record-of-requires : tie.Need-record-of-requires
-record-of-requires c κs = search needs
+record-requires : tie.Need-record-requires
+record-requires c κs = search needs
 
 cast-put-text : tie.Need-cast-put-text
 cast-put-text c = search needs
@@ -33,13 +33,13 @@ slice-aggregate-put-text : tie.Need-slice-aggregate-put-text
 slice-aggregate-put-text c = search needs
 
 put-text-requires : tie.Need-put-text-requires
-put-text-requires c κs = let e = c .before .before .before .before .before .before .before .before .before .before .args in let t = c .before .before .before .before .before .before .translate in let fits = answer-within (e .choice) (e .table .now) (replicate 60_000 0) (t .ensures) in let size : length (t .last .1 .1 .0) ≡ mostBytes = t .kept .1 .1 .0 ∙ length-replicate {A = ℕ} 60_000 0 in (omega (arith, fits, c .before .before .before .before .length-of .ensures), (omega (arith, size), omega (arith, c .before .before .before .before .before .before .before .before .before .before .pre)))
+put-text-requires c κs = let e = c .before .before .before .before .before .before .before .before .before .before .args in let t = c .before .before .before .before .before .before .translate in let fits = answer-within (e .choice) (e .table .now) (replicate 60_000 0) (t .ensures) in let size : length (t .last .1 .1 .0) ≡ mostBytes = t .kept .1 .1 .0 ∙ length-replicate {A = ℕ} 60_000 0 in (omega (arith, fits, c .before .before .before .before .length .ensures), (omega (arith, size), omega (arith, c .before .before .before .before .before .before .before .before .before .before .pre)))
 
 same-length : tie.Need-same-length
 same-length c = search needs
 
 returns : tie.Need-returns
-returns c = let e = c .before .before .before .before .before .before .before .before .before .before .before .before .before .args in let p = c .before .before .put-text .ensures in let same = answer-text (e .choice) (e .table .now) (replicate 60_000 0) (c .before .before .before .before .before .before .before .before .before .translate .ensures) (c .before .before .before .before .before .before .number-of .ensures) (c .before .before .before .before .before .record-of .ensures) (c .before .before .before .before .before .before .before .length-of .ensures) (length-replicate {A = ℕ} 60_000 0) in (p .0 ∙ ap length same, (p .1 .0 ∙ ap (sets (e .text .now) 0) same, p .1 .1))
+returns c = let e = c .before .before .before .before .before .before .before .before .before .before .before .before .before .args in let p = c .before .before .put-text .ensures in let same = answer-text (e .choice) (e .table .now) (replicate 60_000 0) (c .before .before .before .before .before .before .before .before .before .translate .ensures) (c .before .before .before .before .before .before .number .ensures) (c .before .before .before .before .before .«record» .ensures) (c .before .before .before .before .before .before .before .length .ensures) (length-replicate {A = ℕ} 60_000 0) in (p .0 ∙ ap length same, (p .1 .0 ∙ ap (sets (e .text .now) 0) same, p .1 .1))
 
 pub list-table-spec : {M : Type 1} → statement M
 list-table-spec =
@@ -47,9 +47,9 @@ list-table-spec =
     (tie.spec
     slice-aggregate-translate
     translate-requires
-    length-of-requires
-    number-of-requires
-    record-of-requires
+    length-requires
+    number-requires
+    record-requires
     cast-put-text
     slice-aggregate-put-text
     put-text-requires

@@ -1,22 +1,20 @@
--- `listing::number_of` meets its contract, case by case.
+-- `translation::length` meets its contract, case by case.
 -- Assumes nothing.
+use Rattle.translation.proofs.Numbers.{check-writes-nothing}
 use Rattle.answers.specs.Answers.{refused, done}
 use Rattle.translation.specs.Results.{answerOf}
 use borrow.Author.Needs.{needs}
-use Rattle.listing.proofs.number_of.Statement.{statement}
-use Rattle.listing.proofs.number_of.Tie as tie
+use Rattle.translation.proofs.length.Statement.{statement}
+use Rattle.translation.proofs.length.Tie as tie
+
+enum-known-t : tie.Need-enum-known-t
+enum-known-t c = search needs
 
 enum-told : tie.Need-enum-told
 enum-told c = search needs
 
 enum-told-2 : tie.Need-enum-told-2
 enum-told-2 c = search needs
-
-enum-known-t : tie.Need-enum-known-t
-enum-known-t c = search needs
-
-check-number-requires : tie.Need-check-number-requires
-check-number-requires c κs = search needs
 
 enum-told-3 : tie.Need-enum-told-3
 enum-told-3 c = search needs
@@ -34,7 +32,7 @@ returns-2 c = search needs
 
 returns-3 : tie.Need-returns-3
 unfolding answerOf refused done
-returns-3 c = rw (c .before .before .t .given .1) (c .check-number .ensures)
+returns-3 c = rw (c .enum-told2 .given .1) (check-writes-nothing (c .enum-told2 .given .0 .0))
 
 returns-4 : tie.Need-returns-4
 unfolding answerOf refused done
@@ -44,14 +42,13 @@ returns-5 : tie.Need-returns-5
 unfolding answerOf refused done
 returns-5 c = search needs
 
-pub number-of-spec : {M : Type 1} → statement M
-number-of-spec =
+pub length-spec : {M : Type 1} → statement M
+length-spec =
     tie.close
     (tie.spec
+    enum-known-t
     enum-told
     enum-told-2
-    enum-known-t
-    check-number-requires
     enum-told-3
     enum-told-4
     returns

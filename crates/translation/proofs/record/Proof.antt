@@ -1,15 +1,10 @@
--- `listing::length_of` meets its contract, case by case.
+-- `translation::record` meets its contract, case by case.
 -- Assumes nothing.
-use mathlib.Core.Path.{sym}
-use Rattle.listing.proofs.Pieces.{check-writes-nothing}
 use Rattle.answers.specs.Answers.{refused, done}
 use Rattle.translation.specs.Results.{answerOf}
 use borrow.Author.Needs.{needs}
-use Rattle.listing.proofs.length_of.Statement.{statement}
-use Rattle.listing.proofs.length_of.Tie as tie
-
-enum-known-t : tie.Need-enum-known-t
-enum-known-t c = search needs
+use Rattle.translation.proofs.record.Statement.{statement}
+use Rattle.translation.proofs.record.Tie as tie
 
 enum-told : tie.Need-enum-told
 enum-told c = search needs
@@ -17,11 +12,17 @@ enum-told c = search needs
 enum-told-2 : tie.Need-enum-told-2
 enum-told-2 c = search needs
 
+enum-known-t : tie.Need-enum-known-t
+enum-known-t c = search needs
+
+record-requires : tie.Need-record-requires
+record-requires c κs = search needs
+
+enum-known-t-2 : tie.Need-enum-known-t-2
+enum-known-t-2 c = search needs
+
 enum-told-3 : tie.Need-enum-told-3
 enum-told-3 c = search needs
-
-enum-told-4 : tie.Need-enum-told-4
-enum-told-4 c = search needs
 
 returns : tie.Need-returns
 unfolding answerOf refused done
@@ -33,7 +34,7 @@ returns-2 c = search needs
 
 returns-3 : tie.Need-returns-3
 unfolding answerOf refused done
-returns-3 c = rw (c .enum-told2 .given .1) (sym (check-writes-nothing (c .enum-told2 .given .0 .0)))
+returns-3 c = rw (c .before .before .t .given .1) (c .record .ensures)
 
 returns-4 : tie.Need-returns-4
 unfolding answerOf refused done
@@ -43,15 +44,16 @@ returns-5 : tie.Need-returns-5
 unfolding answerOf refused done
 returns-5 c = search needs
 
-pub length-of-spec : {M : Type 1} → statement M
-length-of-spec =
+pub record-spec : {M : Type 1} → statement M
+record-spec =
     tie.close
     (tie.spec
-    enum-known-t
     enum-told
     enum-told-2
+    enum-known-t
+    record-requires
+    enum-known-t-2
     enum-told-3
-    enum-told-4
     returns
     returns-2
     returns-3

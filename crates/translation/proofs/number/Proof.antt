@@ -1,10 +1,10 @@
--- `listing::record_of` meets its contract, case by case.
+-- `translation::number` meets its contract, case by case.
 -- Assumes nothing.
 use Rattle.answers.specs.Answers.{refused, done}
 use Rattle.translation.specs.Results.{answerOf}
 use borrow.Author.Needs.{needs}
-use Rattle.listing.proofs.record_of.Statement.{statement}
-use Rattle.listing.proofs.record_of.Tie as tie
+use Rattle.translation.proofs.number.Statement.{statement}
+use Rattle.translation.proofs.number.Tie as tie
 
 enum-told : tie.Need-enum-told
 enum-told c = search needs
@@ -15,14 +15,14 @@ enum-told-2 c = search needs
 enum-known-t : tie.Need-enum-known-t
 enum-known-t c = search needs
 
-check-record-requires : tie.Need-check-record-requires
-check-record-requires c κs = search needs
-
-enum-known-t-2 : tie.Need-enum-known-t-2
-enum-known-t-2 c = search needs
+number-requires : tie.Need-number-requires
+number-requires c κs = search needs
 
 enum-told-3 : tie.Need-enum-told-3
 enum-told-3 c = search needs
+
+enum-told-4 : tie.Need-enum-told-4
+enum-told-4 c = search needs
 
 returns : tie.Need-returns
 unfolding answerOf refused done
@@ -34,7 +34,7 @@ returns-2 c = search needs
 
 returns-3 : tie.Need-returns-3
 unfolding answerOf refused done
-returns-3 c = rw (c .before .before .t .given .1) (c .check-record .ensures)
+returns-3 c = rw (c .before .before .t .given .1) (c .number .ensures)
 
 returns-4 : tie.Need-returns-4
 unfolding answerOf refused done
@@ -44,16 +44,16 @@ returns-5 : tie.Need-returns-5
 unfolding answerOf refused done
 returns-5 c = search needs
 
-pub record-of-spec : {M : Type 1} → statement M
-record-of-spec =
+pub number-spec : {M : Type 1} → statement M
+number-spec =
     tie.close
     (tie.spec
     enum-told
     enum-told-2
     enum-known-t
-    check-record-requires
-    enum-known-t-2
+    number-requires
     enum-told-3
+    enum-told-4
     returns
     returns-2
     returns-3
