@@ -5,11 +5,11 @@ ghost use Rattle.numbers.specs.Whole.{between};
 ghost use Rattle.table.specs.Records.{recordCount, xAt, yAt};
 ghost use Rattle.answers.specs.Answers.{assignmentFault};
 ghost use Rattle.layout.specs.Passed.{Passed};
-ghost use Rattle.layout.specs.Places.{layoutOf};
+ghost use Rattle.sections.specs.Places.{placesOf};
 ghost use Rattle.assignment.specs.Results.{refusalOf};
-use layout::Layout;
 use layout::fields::x_at;
 use layout::fields::y_at;
+use sections::Places;
 
 // What the test says of an assignment.
 pub enum Assigned {
@@ -33,9 +33,9 @@ fn inside(s: &[u8], p: usize, value: i32) -> bool
 }
 
 // Whether the assignment fits the table's variables.
-pub fn check_assignment(s: &[u8], at: Layout, assignment: &[i32]) -> Assigned
+pub fn check_assignment(s: &[u8], at: Places, assignment: &[i32]) -> Assigned
     requires { ⌜ Passed (now s) ⌝ }
-    requires { ⌜ at ≡ layoutOf (now s) ⌝ }
+    requires { ⌜ at ≡ placesOf (now s) ⌝ }
     ensures { λ r. ⌜ refusalOf r ≡ assignmentFault (now (s .entry)) (now (assignment .entry)) ⌝ }
 {
     let count = at.slots - 1;

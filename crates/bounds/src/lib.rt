@@ -10,7 +10,7 @@ ghost use Rattle.table.specs.Records.{recordCount};
 ghost use Rattle.answers.specs.Sections.{declarations, elementOf, arrayOf, behindArray, nodeCount};
 ghost use Rattle.answers.specs.Answers.{boundsFault};
 ghost use Rattle.layout.specs.Passed.{Passed};
-ghost use Rattle.layout.specs.Places.{layoutOf};
+ghost use Rattle.sections.specs.Places.{placesOf};
 ghost use Rattle.bounds.specs.Spans.{span, asSlot, Narrow};
 ghost use Rattle.bounds.specs.Kept.{keptAt, treesBefore, nodeEnds, Kept, Hulls, refusalOf};
 use crate::ends::Ends;
@@ -27,13 +27,13 @@ use crate::ends::slot_values;
 use crate::ends::summed;
 use crate::ends::times;
 use crate::ends::within_limit;
-use layout::Layout;
 use layout::array_records;
 use layout::fields::kind_at;
 use layout::fields::name_x;
 use layout::fields::name_y;
 use layout::fields::x_at;
 use layout::fields::y_at;
+use sections::Places;
 
 pub mod ends;
 
@@ -44,9 +44,9 @@ pub enum Bounds {
 }
 
 // A variable's domain.
-fn domain(s: &[u8], at: Layout, v: usize) -> Ends
+fn domain(s: &[u8], at: Places, v: usize) -> Ends
     requires { ⌜ Passed (now s) ⌝ }
-    requires { ⌜ at ≡ layoutOf (now s) ⌝ }
+    requires { ⌜ at ≡ placesOf (now s) ⌝ }
     ensures { λ r. ⌜ span r ≡ variableInterval (declarations (now (s .entry))) v ⌝ }
 {
     let end = at.slots - 1;
@@ -61,9 +61,9 @@ fn domain(s: &[u8], at: Layout, v: usize) -> Ends
 }
 
 // A slot's x and y.
-fn slot_ends(s: &[u8], at: Layout, n: usize) -> Ends
+fn slot_ends(s: &[u8], at: Places, n: usize) -> Ends
     requires { ⌜ Passed (now s) ⌝ }
-    requires { ⌜ at ≡ layoutOf (now s) ⌝ }
+    requires { ⌜ at ≡ placesOf (now s) ⌝ }
     ensures { λ r. ⌜ asSlot r ≡ slotAt (declarations (now (s .entry))) n ⌝ }
     ensures { λ r. ⌜ Narrow r ⌝ }
 {
@@ -80,9 +80,9 @@ fn slot_ends(s: &[u8], at: Layout, n: usize) -> Ends
 }
 
 // What the element of record p can be.
-fn element(s: &[u8], at: Layout, p: usize) -> Ends
+fn element(s: &[u8], at: Places, p: usize) -> Ends
     requires { ⌜ Passed (now s) ⌝ }
-    requires { ⌜ at ≡ layoutOf (now s) ⌝ }
+    requires { ⌜ at ≡ placesOf (now s) ⌝ }
     requires { ⌜ p < recordCount (now s) ⌝ }
     ensures { λ r. ⌜ span r ≡ elementInterval (declarations (now (s .entry))) (elementOf (now (s .entry)) p) ⌝ }
 {
@@ -94,9 +94,9 @@ fn element(s: &[u8], at: Layout, p: usize) -> Ends
 }
 
 // The hull of the elements of the array of record p.
-fn elements(s: &[u8], at: Layout, p: usize) -> Ends
+fn elements(s: &[u8], at: Places, p: usize) -> Ends
     requires { ⌜ Passed (now s) ⌝ }
-    requires { ⌜ at ≡ layoutOf (now s) ⌝ }
+    requires { ⌜ at ≡ placesOf (now s) ⌝ }
     requires { ⌜ behindArray (now s) p ≤ recordCount (now s) ⌝ }
     ensures { λ r. ⌜ span r ≡ elementsInterval (declarations (now (s .entry))) (arrayOf (now (s .entry)) p .elements) ⌝ }
 {
@@ -131,15 +131,15 @@ fn operand(lows: &[i64], highs: &[i64], k: usize) -> Ends
 }
 
 // The hull of every array.
-fn array_hulls(s: &[u8], at: Layout, lows: &mut [i64], highs: &mut [i64])
+fn array_hulls(s: &[u8], at: Places, lows: &mut [i64], highs: &mut [i64])
     requires { ⌜ Passed (now s) ⌝ }
-    requires { ⌜ at ≡ layoutOf (now s) ⌝ }
+    requires { ⌜ at ≡ placesOf (now s) ⌝ }
     requires { ⌜ now lows ≡ replicate mostArrays (pos 0) ⌝ }
     requires { ⌜ now highs ≡ replicate mostArrays (pos 0) ⌝ }
     ensures { λ r. ⌜ Hulls (declarations (now (s .entry))) (now (lows .exit)) (now (highs .exit)) ⌝ }
 {
     let places = array_records(s, at);
-    let count = at.tally;
+    let count = at.array_count;
     let mut a = 0;
     while a < count {
         let all = elements(s, at, places[a]);
@@ -154,7 +154,7 @@ fn array_hulls(s: &[u8], at: Layout, lows: &mut [i64], highs: &mut [i64])
 // The interval of node n from those of the nodes before it.
 fn node_ends(
     s: &[u8],
-    at: Layout,
+    at: Places,
     lows: &[i64],
     highs: &[i64],
     hull_lows: &[i64],
@@ -162,7 +162,7 @@ fn node_ends(
     n: usize,
 ) -> Ends
     requires { ⌜ Passed (now s) ⌝ }
-    requires { ⌜ at ≡ layoutOf (now s) ⌝ }
+    requires { ⌜ at ≡ placesOf (now s) ⌝ }
     requires { ⌜ n < nodeCount (now s) ⌝ }
     requires { ⌜ Kept (declarations (now s)) (treesBefore (now s) n) (now lows) (now highs) ⌝ }
     requires { ⌜ Hulls (declarations (now s)) (now «hull_lows») (now «hull_highs») ⌝ }
@@ -193,9 +193,9 @@ fn node_ends(
 }
 
 // The first node whose interval is beyond the limit, reached or not.
-pub fn check_bounds(s: &[u8], at: Layout) -> Bounds
+pub fn check_bounds(s: &[u8], at: Places) -> Bounds
     requires { ⌜ Passed (now s) ⌝ }
-    requires { ⌜ at ≡ layoutOf (now s) ⌝ }
+    requires { ⌜ at ≡ placesOf (now s) ⌝ }
     ensures { λ r. ⌜ refusalOf r ≡ boundsFault (now (s .entry)) ⌝ }
 {
     let mut hull_lows = [0i64; 64];

@@ -2,17 +2,17 @@
 ghost use mathlib.Core.Path.{_≡_};
 ghost use lib.IntN.{natAbs};
 ghost use Rattle.table.specs.Records.{xAt};
-ghost use Rattle.layout.specs.Places.{layoutOf};
+ghost use Rattle.sections.specs.Places.{placesOf};
 ghost use Rattle.reading.specs.Readings.{meant};
 ghost use Rattle.operations.specs.Values.{truthOf};
 ghost use Rattle.preparation.specs.Prepared.{Prepared};
 ghost use Rattle.constraints.specs.Verdicts.{byteOf, walkedAt, ConstraintAt, verdictsOf};
 use evaluator::walk::constraint;
-use layout::Layout;
 use layout::fields::name_x;
 use operations::values::Value;
 use operations::values::Walked;
 use reading::Reading;
+use sections::Places;
 use table::NodeNumber;
 
 // One byte per constraint from byte 0 on, whether no integer node met was beyond the limit, and whether all bytes are 1.
@@ -54,14 +54,14 @@ pub fn constraint_value(
 // The values of all constraints for an assignment under a reading. It stops at the first number beyond the limit.
 pub fn constraint_values(
     s: &[u8],
-    at: Layout,
+    at: Places,
     t: &[u8; 60000],
     places: &[u32; 69],
     assignment: &[i32],
     reading: Reading,
 ) -> Verdicts
     requires { ⌜ Prepared (now s) (now t) (now places) ⌝ }
-    requires { ⌜ at ≡ layoutOf (now s) ⌝ }
+    requires { ⌜ at ≡ placesOf (now s) ⌝ }
     ensures { λ r. ⌜ r ≡ verdictsOf (now (s .entry)) (meant reading) (now (assignment .entry)) ⌝ }
 {
     let mut bytes = [0u8; 5000];

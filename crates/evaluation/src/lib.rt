@@ -8,20 +8,20 @@ ghost use Rattle.answers.specs.Sections.{constraints};
 ghost use Rattle.answers.specs.Check.{checkFault};
 ghost use Rattle.answers.specs.Answers as Answers;
 ghost use Rattle.answers.specs.Answers.{assignmentFault, totalCost, evaluateUnder};
-ghost use Rattle.layout.specs.Places.{layoutOf};
+ghost use Rattle.sections.specs.Places.{placesOf};
 ghost use Rattle.reading.specs.Readings.{meant};
 ghost use Rattle.evaluation.specs.Results.{answerOf, outcomeOf};
 ghost use Rattle.evaluation.specs.Admissions.{outcomeAfter, Admits};
 use assignment::Assigned;
 use assignment::check_assignment;
 use constraints::constraint_values;
-use layout::Layout;
-use layout::find_sections;
 use preparation::fill;
 use preparation::lay_out;
 use reading::Choice;
 use reading::Reading;
 use reading::reading_of;
+use sections::Places;
+use sections::find_places;
 use steps::total_steps;
 use verdict::Check;
 use verdict::is_sound;
@@ -61,13 +61,13 @@ enum Admission {
 // 9 and 11, for an assignment that fits.
 fn admit_assigned(
     table: &[u8],
-    at: Layout,
+    at: Places,
     assignment: &[i32],
     budget: u32,
     room: usize,
 ) -> Admission
     requires { ⌜ checkFault (now table) ≡ none ⌝ }
-    requires { ⌜ at ≡ layoutOf (now table) ⌝ }
+    requires { ⌜ at ≡ placesOf (now table) ⌝ }
     requires { ⌜ assignmentFault (now table) (now assignment) ≡ none ⌝ }
     ensures { λ r. ⌜ Admits (now (table .entry)) (now (assignment .entry)) budget room r ⌝ }
 {
@@ -84,9 +84,9 @@ fn admit_assigned(
 }
 
 // "Evaluate: then 10, 9, 11"
-fn admit(table: &[u8], at: Layout, assignment: &[i32], budget: u32, room: usize) -> Admission
+fn admit(table: &[u8], at: Places, assignment: &[i32], budget: u32, room: usize) -> Admission
     requires { ⌜ checkFault (now table) ≡ none ⌝ }
-    requires { ⌜ at ≡ layoutOf (now table) ⌝ }
+    requires { ⌜ at ≡ placesOf (now table) ⌝ }
     ensures { λ r. ⌜ Admits (now (table .entry)) (now (assignment .entry)) budget room r ⌝ }
 {
     match check_assignment(table, at, assignment) {
@@ -113,13 +113,13 @@ fn write(bytes: &[u8; 5000], count: usize, out: &mut [u8])
 fn evaluate_admitted(
     reading: Reading,
     table: &[u8],
-    at: Layout,
+    at: Places,
     assignment: &[i32],
     steps: u32,
     verdicts: &mut [u8],
 ) -> Evaluation
     requires { ⌜ checkFault (now table) ≡ none ⌝ }
-    requires { ⌜ at ≡ layoutOf (now table) ⌝ }
+    requires { ⌜ at ≡ placesOf (now table) ⌝ }
     requires { ⌜ steps ≡ totalCost (now table) ⌝ }
     requires { ⌜ length (constraints (now table)) ≤ length (now verdicts) ⌝ }
     ensures { λ r. ⌜ outcomeOf r (now (verdicts .exit)) ≡ outcomeAfter (now (table .entry)) (now (assignment .entry)) (meant reading) (now (verdicts .entry)) ⌝ }
@@ -155,7 +155,7 @@ fn evaluate_under(
     if !is_sound(c) {
         return Evaluation::Unsound(c);
     }
-    let at = find_sections(table);
+    let at = find_places(table);
     match admit(table, at, assignment, budget, verdicts.len()) {
         Admission::Steps(steps) => evaluate_admitted(
             reading,

@@ -9,8 +9,9 @@ use lib.ListN.{length, getD}
 use Rattle.table.specs.Records.{Mark, VR, SL, AR, ND, CN, marked, recordCount, recordSize}
 use Rattle.answers.specs.Sections.{runEnd, endOf, behindArray, arraysFrom, arraysEnd, variablesAt, slotsAt, arraysAt, nodesAt, constraintsAt, restAt, arrayRecords}
 use Rattle.layout.specs.Passed.{Passed}
-use Rattle.layout.specs.Places.{layoutOf}
-use Rattle.layout.specs.declared.Layout.{Layout}
+use Rattle.sections.specs.Places.{placesOf}
+use Rattle.sections.specs.declared.Places.{Places}
+use Rattle.sections.proofs.Bounds.{slots-place, arrays-place, array-count, nodes-place, constraints-place, rest-place}
 use Rattle.answers.proofs.RunEnds.{run-stop, run-on, arrays-end-stop, arrays-end-on, arrays-stop, arrays-on, marked-within, run-above}
 
 module _ (bs : List ℕ) where
@@ -69,23 +70,23 @@ module _ (bs : List ℕ) where
       }
 
 -- The places that the code holds are those of the sections, in order.
-pub record Laid (bs : List ℕ) (at : Layout) : Type 0 where
+pub record Laid (bs : List ℕ) (at : Places) : Type 0 where
   pub slots : at .slots ≡ slotsAt bs
   pub arrays : at .arrays ≡ arraysAt bs
-  pub tally : at .tally ≡ length (arrayRecords bs)
+  pub tally : at .«array_count» ≡ length (arrayRecords bs)
   pub nodes : at .nodes ≡ nodesAt bs
   pub constraints : at .constraints ≡ constraintsAt bs
   pub rest : at .rest ≡ restAt bs
   pub order : Ordered bs
 
-pub laid : (bs : List ℕ) {at : Layout} → Passed bs → at ≡ layoutOf bs → Laid bs at
+pub laid : (bs : List ℕ) {at : Places} → Passed bs → at ≡ placesOf bs → Laid bs at
 laid bs p e =
     record {
-      slots = ap (λ (l : Layout). l .slots) e;
-      arrays = ap (λ (l : Layout). l .arrays) e;
-      tally = ap (λ (l : Layout). l .tally) e;
-      nodes = ap (λ (l : Layout). l .nodes) e;
-      constraints = ap (λ (l : Layout). l .constraints) e;
-      rest = ap (λ (l : Layout). l .rest) e;
+      slots = slots-place bs e;
+      arrays = arrays-place bs e;
+      tally = array-count bs e;
+      nodes = nodes-place bs e;
+      constraints = constraints-place bs e;
+      rest = rest-place bs e;
       order = ordered bs p;
     }

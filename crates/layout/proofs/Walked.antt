@@ -12,40 +12,10 @@ use mathlib.Core.List.{List, [], _∷_}
 use lib.ListN.{length, getD, drop, set, replicate, length-drop, length-set, length-replicate, List·getD-eq-default}
 use lib.Seq.{drop-cons, getD-set-same, getD-set-other}
 use Rattle.numbers.specs.Limits.{mostArrays}
-use Rattle.table.specs.Records.{VR, SL, AR, ND, CN, marked, recordCount, recordSize}
-use Rattle.answers.specs.Sections.{endOf, variablesAt, slotsAt, arraysAt, nodesAt, constraintsAt, restAt, behindArray, arraysFrom, arraysEnd, arrayRecords}
-use Rattle.layout.specs.Places.{arraysOf, layoutOf, ArraysHeld}
-use Rattle.layout.specs.declared.Arrays.{Arrays}
-use Rattle.answers.proofs.RunEnds.{arrays-end-stop, arrays-end-on, arrays-stop, arrays-on, unmarked-beyond}
-
--- `count` arrays from `from` on lie before record p, and the others begin there.
-pub record Walked (bs : List ℕ) (from count p : ℕ) : Type 0 where
-  pub behind : count ≤ p
-  pub counted : length (arraysFrom bs (recordCount bs) from) ≡ count + length (arraysFrom bs (recordCount bs - count) p)
-  pub ends : arraysEnd bs (recordCount bs) from ≡ arraysEnd bs (recordCount bs - count) p
-
-module _ (bs : List ℕ) (from : ℕ) where
-  pub walked-none : Walked bs from 0 from
-  walked-none = let z : recordCount bs - 0 ≡ recordCount bs = omega arith in record { behind = omega arith; counted = rw z (omega arith); ends = rw z }
-
-  module _ {count p : ℕ} (w : Walked bs from count p) where
-    pub walked-more : p < recordCount bs → marked bs AR p ≡ true → {q : ℕ} → q ≡ behindArray bs p → Walked bs from (count + 1) q
-    unfolding behindArray
-    walked-more h e {q} l =
-        let f : recordCount bs - count ≡ suc (recordCount bs - (count + 1)) = omega (arith, w .behind) in
-        record {
-          behind = omega (arith, w .behind);
-          counted = w .counted ∙ rw (l, arrays-on bs _ _ p f e) (omega arith);
-          ends = w .ends ∙ rw (l, arrays-end-on bs _ _ p f e);
-        }
-
-    pub walked-all : marked bs AR p ≡ false → record { count = count; end = p } ≡ arraysOf bs from
-    walked-all e = cc (sym (w .ends ∙ arrays-end-stop bs (recordCount bs - count) p e), all-counted)
-      where
-        all-counted : count ≡ length (arraysFrom bs (recordCount bs) from)
-        all-counted = omega (arith, w .counted, ap length (arrays-stop bs (recordCount bs - count) p e))
-
--- ---- array by array
+use Rattle.table.specs.Records.{AR, marked, recordCount, recordSize}
+use Rattle.answers.specs.Sections.{arraysAt, behindArray, arraysFrom, arrayRecords}
+use Rattle.layout.specs.Places.{ArraysHeld}
+use Rattle.answers.proofs.RunEnds.{arrays-stop, arrays-on, unmarked-beyond}
 
 -- The first n places hold the records of the first n arrays, the others 0, and array n begins at p.
 pub record Placed (bs places : List ℕ) (n p : ℕ) : Type 0 where
@@ -102,8 +72,3 @@ module _ (bs : List ℕ) where
   pub placed-all : {places : List ℕ} {n p : ℕ} → Placed bs places n p → length (arrayRecords bs) ≤ n → ArraysHeld bs places
   placed-all {places} {n} w h =
       record { held = λ a. ⊎-elim (λ l. w .before a l) (λ l. w .after a l ∙ sym (List·getD-eq-default (arrayRecords bs) 0 {n = a} (omega arith))) (lt-or-ge a n) }
-
--- The parts that are found one after the other are the layout.
-pub layout-found : (bs : List ℕ) {slots arrays constraints rest : ℕ} {found : Arrays} → slots ≡ endOf bs VR 1 → arrays ≡ endOf bs SL slots → found ≡ arraysOf bs arrays → constraints ≡ endOf bs ND (found .end) → rest ≡ endOf bs CN constraints → record { slots = slots; arrays = arrays; tally = found .count; nodes = found .end; constraints = constraints; rest = rest } ≡ layoutOf bs
-unfolding slotsAt arraysAt nodesAt constraintsAt restAt variablesAt arrayRecords
-layout-found bs a b c d e = cc

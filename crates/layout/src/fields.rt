@@ -5,7 +5,7 @@ ghost use lib.ListN.{length};
 ghost use lib.IntN.{natAbs};
 ghost use Rattle.table.specs.Records.{recordSize, wordAt, kindAt, xAt, yAt};
 ghost use Rattle.table.specs.Records as Records;
-ghost use Rattle.layout.specs.Bytes.{Byte, lettered};
+ghost use Rattle.layout.specs.Bytes.{Byte};
 
 fn wide(b: u8) -> u32
     ensures { λ r. ⌜ Byte b r ⌝ }
@@ -79,12 +79,4 @@ pub fn name_y(s: &[u8], k: usize) -> usize
     ensures { λ r. ⌜ r ≡ natAbs (yAt (now (s .entry)) k) ⌝ }
 {
     named(word_at(s, 12 * k + 8))
-}
-
-// Record k has the mark of these two letters.
-pub fn marked(s: &[u8], k: usize, first: u8, second: u8) -> bool
-    requires { ⌜ recordSize * k + recordSize ≤ length (now s) ⌝ }
-    ensures { λ r. ⌜ r ≡ lettered (now (s .entry)) k first second ⌝ }
-{
-    s[12 * k] == first && s[12 * k + 1] == second
 }

@@ -16,8 +16,8 @@ use Rattle.numbers.proofs.Lists.{Filled, filled-more, getD-replicate-same}
 use Rattle.table.specs.Records.{recordCount}
 use Rattle.answers.specs.Sections.{slotsAt, arraysAt, nodesAt, slotCount, arrayRecords, nodeCount, behindArray}
 use Rattle.layout.specs.Passed.{Passed}
-use Rattle.layout.specs.Places.{layoutOf}
-use Rattle.layout.specs.declared.Layout.{Layout}
+use Rattle.sections.specs.Places.{placesOf}
+use Rattle.sections.specs.declared.Places.{Places}
 use Rattle.layout.proofs.Order.{behind-≤, ordered, laid}
 use Rattle.preparation.specs.Prepared.{padded, PlacesOf}
 
@@ -70,8 +70,8 @@ module _ (bs : List ℕ) (p : Passed bs) where
       inside h = omega (arith, behind-≤ bs (recordCount bs) (arraysAt bs) a h, ordered bs p)
 
   -- Behind the arrays come where the other sections stand.
-  pub places-laid : {at : Layout} {xs : List ℕ} {i : ℕ} → at ≡ layoutOf bs → Filled 0 69 (placeAt bs) xs i → i ≡ mostArrays
-      → PlacesOf bs (set (set (set (set (set xs 64 (at .slots)) 65 (at .arrays - at .slots)) 66 (at .tally)) 67 (at .nodes)) 68 (at .constraints - at .nodes))
+  pub places-laid : {at : Places} {xs : List ℕ} {i : ℕ} → at ≡ placesOf bs → Filled 0 69 (placeAt bs) xs i → i ≡ mostArrays
+      → PlacesOf bs (set (set (set (set (set xs 64 (at .slots)) 65 (at .arrays - at .slots)) 66 (at .«array_count»)) 67 (at .nodes)) 68 (at .constraints - at .nodes))
   unfolding placeAt slotCount nodeCount
   places-laid e s q =
       let l = laid bs p e in

@@ -4,10 +4,10 @@ ghost use Prim.Native.Nat.{_≤_};
 ghost use lib.ListN.{length, replicate};
 ghost use Rattle.numbers.specs.Limits.{mostBytes};
 ghost use Rattle.layout.specs.Passed.{Passed};
-ghost use Rattle.layout.specs.Places.{layoutOf};
+ghost use Rattle.sections.specs.Places.{placesOf};
 ghost use Rattle.preparation.specs.Prepared.{padded, PlacesOf};
-use layout::Layout;
 use layout::array_records;
+use sections::Places;
 
 // Copies the table into an array of zeros.
 pub fn fill(t: &mut [u8; 60000], table: &[u8])
@@ -24,9 +24,9 @@ pub fn fill(t: &mut [u8; 60000], table: &[u8])
 }
 
 // The record of each array, and where slots and nodes begin and how many there are.
-pub fn lay_out(s: &[u8], at: Layout) -> [u32; 69]
+pub fn lay_out(s: &[u8], at: Places) -> [u32; 69]
     requires { ⌜ Passed (now s) ⌝ }
-    requires { ⌜ at ≡ layoutOf (now s) ⌝ }
+    requires { ⌜ at ≡ placesOf (now s) ⌝ }
     ensures { λ r. ⌜ PlacesOf (now (s .entry)) r ⌝ }
 {
     let arrays = array_records(s, at);
@@ -38,7 +38,7 @@ pub fn lay_out(s: &[u8], at: Layout) -> [u32; 69]
     }
     let slots = at.slots;
     let nodes = at.nodes;
-    let tally = at.tally;
+    let tally = at.array_count;
     let slot_count = at.arrays - slots;
     let node_count = at.constraints - nodes;
     places[64] = slots as u32;

@@ -12,16 +12,16 @@ ghost use Rattle.table.specs.Kinds.{kinds};
 ghost use Rattle.answers.specs.Sections.{declarations, nodeCount, nodeTrees};
 ghost use Rattle.answers.specs.Check.{checkFault};
 ghost use Rattle.answers.specs.Answers.{totalCost};
-ghost use Rattle.layout.specs.Places.{layoutOf};
+ghost use Rattle.sections.specs.Places.{placesOf};
 ghost use Rattle.steps.specs.Capped as Capped;
 ghost use Rattle.steps.specs.Shapes.{shapeOf};
 ghost use Rattle.steps.specs.Kept.{Kept};
-use layout::Layout;
 use layout::fields::kind_at;
 use layout::fields::name_x;
 use layout::fields::name_y;
 use layout::fields::x_at;
 use layout::fields::y_at;
+use sections::Places;
 
 // Whose steps a node of each kind takes over: 0 nobody's, 1 those of node x, 2 of node y, 3 of both, 4 of the body y for each value of slot x.
 const SHAPES: [u8; 31] = [
@@ -94,9 +94,9 @@ fn values_between(low: i64, high: i64) -> u64
 }
 
 // How many values slot n has.
-fn slot_count(s: &[u8], at: Layout, n: usize) -> u64
+fn slot_count(s: &[u8], at: Places, n: usize) -> u64
     requires { ⌜ checkFault (now s) ≡ none ⌝ }
-    requires { ⌜ at ≡ layoutOf (now s) ⌝ }
+    requires { ⌜ at ≡ placesOf (now s) ⌝ }
     ensures { λ r. ⌜ r ≡ count (slotAt (declarations (now (s .entry))) n) ⌝ }
 {
     let first = at.slots;
@@ -108,9 +108,9 @@ fn slot_count(s: &[u8], at: Layout, n: usize) -> u64
 }
 
 // The steps of node n from those of the nodes before it: 1, and those of its operands.
-fn node_steps(s: &[u8], at: Layout, shapes: &[u8; 31], costs: &[u64; 5000], n: usize) -> u64
+fn node_steps(s: &[u8], at: Places, shapes: &[u8; 31], costs: &[u64; 5000], n: usize) -> u64
     requires { ⌜ checkFault (now s) ≡ none ⌝ }
-    requires { ⌜ at ≡ layoutOf (now s) ⌝ }
+    requires { ⌜ at ≡ placesOf (now s) ⌝ }
     requires { ⌜ now shapes ≡ map shapeOf kinds ⌝ }
     requires { ⌜ Kept (now s) n (now costs) ⌝ }
     requires { ⌜ n < nodeCount (now s) ⌝ }
@@ -132,9 +132,9 @@ fn node_steps(s: &[u8], at: Layout, shapes: &[u8; 31], costs: &[u64; 5000], n: u
 }
 
 // The steps of all constraints from those of the nodes.
-fn constraint_steps(s: &[u8], at: Layout, costs: &[u64; 5000]) -> u64
+fn constraint_steps(s: &[u8], at: Places, costs: &[u64; 5000]) -> u64
     requires { ⌜ checkFault (now s) ≡ none ⌝ }
-    requires { ⌜ at ≡ layoutOf (now s) ⌝ }
+    requires { ⌜ at ≡ placesOf (now s) ⌝ }
     requires { ⌜ Kept (now s) (nodeCount (now s)) (now costs) ⌝ }
     ensures { λ r. ⌜ r ≡ Capped.capped (totalCost (now (s .entry))) ⌝ }
 {
@@ -150,9 +150,9 @@ fn constraint_steps(s: &[u8], at: Layout, costs: &[u64; 5000]) -> u64
 }
 
 // The steps of all constraints together, 2^32 where they are more than 2^32 − 1.
-pub fn total_steps(s: &[u8], at: Layout) -> u64
+pub fn total_steps(s: &[u8], at: Places) -> u64
     requires { ⌜ checkFault (now s) ≡ none ⌝ }
-    requires { ⌜ at ≡ layoutOf (now s) ⌝ }
+    requires { ⌜ at ≡ placesOf (now s) ⌝ }
     ensures { λ r. ⌜ r ≡ Capped.capped (totalCost (now (s .entry))) ⌝ }
 {
     let shapes = SHAPES;

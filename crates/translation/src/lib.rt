@@ -16,17 +16,17 @@ ghost use Rattle.answers.specs.Answers.{newCount, translation, translateUnder};
 ghost use Rattle.verdict.specs.Results.{isNone};
 ghost use Rattle.bounds.specs.Kept.{refusalOf};
 ghost use Rattle.layout.specs.Passed.{Passed};
-ghost use Rattle.layout.specs.Places.{layoutOf};
+ghost use Rattle.sections.specs.Places.{placesOf};
 ghost use Rattle.reading.specs.Readings.{meant};
 ghost use Rattle.translation.specs.Results.{recordBeyond, answerOf, outcomeOf};
 ghost use Rattle.translation.specs.Fronts.{front};
 use bounds::Bounds;
 use bounds::check_bounds;
-use layout::Layout;
-use layout::find_sections;
 use reading::Choice;
 use reading::Reading;
 use reading::reading_of;
+use sections::Places;
+use sections::find_places;
 use table::RECORD_SIZE;
 use translator::new_records;
 use translator::writer::put_record;
@@ -65,9 +65,9 @@ fn copy_part(s: &[u8], from: usize, end: usize, out: &mut [u8])
 }
 
 // Writes HD with the new count, and the declarations.
-fn put_declarations(s: &[u8], at: Layout, records: u32, out: &mut [u8])
+fn put_declarations(s: &[u8], at: Places, records: u32, out: &mut [u8])
     requires { ⌜ Passed (now s) ⌝ }
-    requires { ⌜ at ≡ layoutOf (now s) ⌝ }
+    requires { ⌜ at ≡ placesOf (now s) ⌝ }
     requires { ⌜ recordSize * nodesAt (now s) ≤ length (now out) ⌝ }
     ensures { λ r. ⌜ now (out .exit) ≡ sets (now (out .entry)) 0 (front (now (s .entry)) records) ⌝ }
 {
@@ -76,9 +76,9 @@ fn put_declarations(s: &[u8], at: Layout, records: u32, out: &mut [u8])
 }
 
 // Writes the whole new table.
-fn write(table: &[u8], at: Layout, reading: Reading, records: u32, out: &mut [u8])
+fn write(table: &[u8], at: Places, reading: Reading, records: u32, out: &mut [u8])
     requires { ⌜ checkFault (now table) ≡ none ⌝ }
-    requires { ⌜ at ≡ layoutOf (now table) ⌝ }
+    requires { ⌜ at ≡ placesOf (now table) ⌝ }
     requires { ⌜ records ≡ newCount (now table) (meant reading) ⌝ }
     requires { ⌜ recordSize * records ≤ length (now out) ⌝ }
     requires { ⌜ recordSize * records ≤ mostBytes ⌝ }
@@ -120,7 +120,7 @@ fn translate_sound(reading: Reading, table: &[u8], out: &mut [u8]) -> Translatio
     requires { ⌜ checkFault (now table) ≡ none ⌝ }
     ensures { λ r. ⌜ outcomeOf r (now (out .exit)) ≡ translateUnder (now (table .entry)) (meant reading) (now (out .entry)) ⌝ }
 {
-    let at = find_sections(table);
+    let at = find_places(table);
     let records = new_records(table, at, reading);
     let room = has_room(records, out.len());
     let bounds = check_bounds(table, at);

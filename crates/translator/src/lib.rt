@@ -3,13 +3,13 @@ ghost use mathlib.Core.Path.{_≡_};
 ghost use Prim.Native.Nat.{_<_};
 ghost use Rattle.answers.specs.Answers.{newCount};
 ghost use Rattle.layout.specs.Passed.{Passed};
-ghost use Rattle.layout.specs.Places.{layoutOf};
+ghost use Rattle.sections.specs.Places.{placesOf};
 ghost use Rattle.translator.specs.Plans.{planIndex};
 ghost use Rattle.reading.specs.Readings.{meant};
 use crate::tables::PLANS;
-use layout::Layout;
 use layout::fields::kind_at;
 use reading::Reading;
+use sections::Places;
 
 pub mod rows;
 pub mod tables;
@@ -36,9 +36,9 @@ fn counted(b: u8) -> usize
 }
 
 // How many records the new table has.
-pub fn new_records(s: &[u8], at: Layout, reading: Reading) -> usize
+pub fn new_records(s: &[u8], at: Places, reading: Reading) -> usize
     requires { ⌜ Passed (now s) ⌝ }
-    requires { ⌜ at ≡ layoutOf (now s) ⌝ }
+    requires { ⌜ at ≡ placesOf (now s) ⌝ }
     ensures { λ r. ⌜ r ≡ newCount (now (s .entry)) (meant reading) ⌝ }
 {
     let plans = PLANS;

@@ -12,8 +12,8 @@ use Rattle.table.specs.Records.{recordSize, kindAt}
 use Rattle.answers.specs.Sections.{nodesAt, nodeCount, constraintCount, constraints}
 use Rattle.answers.specs.Check.{checkFault}
 use Rattle.answers.specs.Answers.{newCount}
-use Rattle.layout.specs.Places.{layoutOf}
-use Rattle.layout.specs.declared.Layout.{Layout}
+use Rattle.sections.specs.Places.{placesOf}
+use Rattle.sections.specs.declared.Places.{Places}
 use Rattle.layout.proofs.Checked.{checked}
 use Rattle.layout.proofs.Order.{laid}
 use Rattle.translator.specs.Plans.{planAt}
@@ -32,7 +32,7 @@ pub record Turn (bs : List ℕ) (ρ : Reading) (room nodes next n : ℕ) : Type 
   pub fits : 12 * (nodes + next) + recordSize * planAt ρ (kindAt bs (nodes + n)) 1 ≤ room
   pub small : 12 * (nodes + (next + planAt ρ (kindAt bs (nodes + n)) 1)) ≤ 60_000
 
-module _ (bs : List ℕ) (ρ : Reading) {at : Layout} {room : ℕ} (e : checkFault bs ≡ none) (a : at ≡ layoutOf bs) (r : recordSize * newCount bs ρ ≤ room) (m : recordSize * newCount bs ρ ≤ mostBytes) {o out firsts seconds : List ℕ} {next n : ℕ} (w : Standing bs ρ o out firsts seconds next n) where
+module _ (bs : List ℕ) (ρ : Reading) {at : Places} {room : ℕ} (e : checkFault bs ≡ none) (a : at ≡ placesOf bs) (r : recordSize * newCount bs ρ ≤ room) (m : recordSize * newCount bs ρ ≤ mostBytes) {o out firsts seconds : List ℕ} {next n : ℕ} (w : Standing bs ρ o out firsts seconds next n) where
   -- A turn for each node.
   pub turn : n < at .constraints - at .nodes → Turn bs ρ room (at .nodes) next n
   unfolding nodeCount recordSize

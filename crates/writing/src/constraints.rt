@@ -6,17 +6,17 @@ ghost use lib.Seq.{sets};
 ghost use Rattle.table.specs.Records.{recordSize};
 ghost use Rattle.answers.specs.Sections.{constraints};
 ghost use Rattle.layout.specs.Passed.{Passed};
-ghost use Rattle.layout.specs.Places.{layoutOf};
+ghost use Rattle.sections.specs.Places.{placesOf};
 ghost use Rattle.writing.specs.Constraints.{constraintsOver};
 use crate::words::kept;
-use layout::Layout;
 use layout::fields::name_x;
+use sections::Places;
 use translator::writer::put_record;
 
 // Writes the constraints as records from record `from` on; P of a node is its first position.
-pub fn put_constraints(s: &[u8], at: Layout, firsts: &[u32; 5000], from: usize, out: &mut [u8])
+pub fn put_constraints(s: &[u8], at: Places, firsts: &[u32; 5000], from: usize, out: &mut [u8])
     requires { ⌜ Passed (now s) ⌝ }
-    requires { ⌜ at ≡ layoutOf (now s) ⌝ }
+    requires { ⌜ at ≡ placesOf (now s) ⌝ }
     requires { ⌜ length (now firsts) ≡ 5_000 ⌝ }
     requires { ⌜ recordSize * (from + length (constraints (now s))) ≤ length (now out) ⌝ }
     ensures { λ r. ⌜ now (out .exit) ≡ sets (now (out .entry)) (recordSize * from) (constraintsOver (now (firsts .entry)) (constraints (now (s .entry)))) ⌝ }

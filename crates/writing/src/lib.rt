@@ -10,16 +10,16 @@ ghost use Rattle.table.specs.Records.{recordSize};
 ghost use Rattle.answers.specs.Sections.{nodesAt, constraints};
 ghost use Rattle.answers.specs.Check.{checkFault};
 ghost use Rattle.answers.specs.Answers.{translated, newNodes, newConstraints, newCount};
-ghost use Rattle.layout.specs.Places.{layoutOf};
+ghost use Rattle.sections.specs.Places.{placesOf};
 ghost use Rattle.reading.specs.Readings.{meant};
 ghost use Rattle.translator.specs.Plans.{readingNumber};
 use crate::constraints::put_constraints;
 use crate::words::node_words;
 use kinds::x_codes;
-use layout::Layout;
 use layout::array_records;
 use layout::fields::kind_at;
 use reading::Reading;
+use sections::Places;
 use translator::rows::put_rows;
 use translator::rows::word_of;
 use translator::tables::PLANS;
@@ -53,9 +53,9 @@ fn wide(b: u8) -> u32
 }
 
 // Writes the new nodes and constraints behind the declarations of the new table.
-pub fn put_nodes_and_constraints(s: &[u8], at: Layout, reading: Reading, out: &mut [u8])
+pub fn put_nodes_and_constraints(s: &[u8], at: Places, reading: Reading, out: &mut [u8])
     requires { ⌜ checkFault (now s) ≡ none ⌝ }
-    requires { ⌜ at ≡ layoutOf (now s) ⌝ }
+    requires { ⌜ at ≡ placesOf (now s) ⌝ }
     requires { ⌜ recordSize * newCount (now s) (meant reading) ≤ length (now out) ⌝ }
     requires { ⌜ recordSize * newCount (now s) (meant reading) ≤ mostBytes ⌝ }
     ensures { λ r. ⌜ now (out .exit) ≡ sets (now (out .entry)) (recordSize * nodesAt (now (s .entry))) (newNodes (now (s .entry)) (meant reading) (translated (now (s .entry)) (meant reading) .rows) ++ newConstraints (now (s .entry)) (meant reading) (constraints (now (s .entry)))) ⌝ }

@@ -19,17 +19,17 @@ is-sound-requires c κs = search needs
 returns : tie.Need-returns
 returns c = refused-check _ _ _ _ _ _ (c .before .before .check .ensures) (c .before .is-sound .ensures) (not-true _ (c .if1 .taken))
 
-find-sections-requires : tie.Need-find-sections-requires
-find-sections-requires c κs = let ok = sound→checked _ _ (c .before .before .check .ensures) (c .before .is-sound .ensures) (not-false _ (c .if1 .left)) in checked _ ok .whole
+find-places-requires : tie.Need-find-places-requires
+find-places-requires c κs = let ok = sound→checked _ _ (c .before .before .check .ensures) (c .before .is-sound .ensures) (not-false _ (c .if1 .left)) in checked _ ok .whole
 
 admit-requires : tie.Need-admit-requires
-admit-requires c κs = let ok = sound→checked _ _ (c .before .before .before .check .ensures) (c .before .before .is-sound .ensures) (not-false _ (c .before .if1 .left)) in (ok, c .find-sections .ensures)
+admit-requires c κs = let ok = sound→checked _ _ (c .before .before .before .check .ensures) (c .before .before .is-sound .ensures) (not-false _ (c .before .if1 .left)) in (ok, c .find-places .ensures)
 
 enum-known-steps : tie.Need-enum-known-steps
 enum-known-steps c = search needs
 
 evaluate-admitted-requires : tie.Need-evaluate-admitted-requires
-evaluate-admitted-requires c κs = let ok = sound→checked _ _ (c .before .before .before .before .before .before .before .before .check .ensures) (c .before .before .before .before .before .before .before .is-sound .ensures) (not-false _ (c .before .before .before .before .before .before .if1 .left)) in let a = c .before .before .before .before .admit .ensures in let q = c .before .before .steps .given .1 in (ok, (c .before .before .before .before .before .find-sections .ensures, (a .steps _ q, admitted-room _ _ _ _ (sym (ap admissionFault q) ∙ a .fault))))
+evaluate-admitted-requires c κs = let ok = sound→checked _ _ (c .before .before .before .before .before .before .before .before .check .ensures) (c .before .before .before .before .before .before .before .is-sound .ensures) (not-false _ (c .before .before .before .before .before .before .if1 .left)) in let a = c .before .before .before .before .admit .ensures in let q = c .before .before .steps .given .1 in (ok, (c .before .before .before .before .before .find-places .ensures, (a .steps _ q, admitted-room _ _ _ _ (sym (ap admissionFault q) ∙ a .fault))))
 
 enum-known-p : tie.Need-enum-known-p
 enum-known-p c = search needs
@@ -65,7 +65,7 @@ evaluate-under-spec =
     check-requires
     is-sound-requires
     returns
-    find-sections-requires
+    find-places-requires
     admit-requires
     enum-known-steps
     evaluate-admitted-requires

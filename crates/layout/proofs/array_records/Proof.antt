@@ -2,7 +2,7 @@
 -- Assumes nothing.
 use Rattle.layout.proofs.Runs.{behind-at, within-table}
 use Rattle.layout.proofs.Words.{yAt-natAbs-≤}
-use Rattle.layout.specs.declared.Layout.{Layout}
+use Rattle.sections.proofs.Bounds.{arrays-place, array-count}
 use Rattle.answers.specs.Sections.{arrayRecords}
 use Rattle.table.specs.Records.{recordSize, recordCount}
 use lib.ListN.{length}
@@ -21,13 +21,13 @@ abbrev μ-loop : tie.MeasureT-loop
 
 -- an array number below the count, and its record within the table
 counted : (c : tie.In-loop Inv-loop μ-loop) → c .before .loop .n < length (arrayRecords (c .before .before .before .args .s .now))
-counted c = omega (arith, ap (λ (l : Layout). l .tally) (c .before .before .before .pre .1))
+counted c = omega (arith, array-count _ (c .before .before .before .pre .1))
 
 next-at : (c : tie.In-loop Inv-loop μ-loop) → c .before .loop .p < recordCount (c .before .before .before .args .s .now)
 next-at c = next-within _ (c .before .loop .inv) (c .before .before .before .pre .0 .whole) (counted c)
 
 loop-holds : tie.Need-loop-holds Inv-loop μ-loop
-loop-holds c = rw (ap (λ (l : Layout). l .arrays) (c .before .pre .1)) (placed-none _)
+loop-holds c = rw (arrays-place _ (c .before .pre .1)) (placed-none _)
 
 mul-places : tie.Need-mul-places Inv-loop μ-loop
 mul-places c = omega (arith, counted c, c .before .before .before .pre .0 .few-arrays)
@@ -56,7 +56,7 @@ loop-again : tie.Need-loop-again Inv-loop μ-loop
 loop-again c = placed-more _ (c .before .before .loop .inv) (c .before .before .before .before .pre .0 .whole) (counted (c .before)) (omega (arith, counted (c .before), c .before .before .before .before .pre .0 .few-arrays)) (ap (λ n. c .before .before .loop .p + 1 + n) (c .name-y .ensures) ∙ behind-at _ _)
 
 returns : tie.Need-returns Inv-loop μ-loop
-returns c = placed-all _ (c .before .loop .inv) (omega (arith, ap (λ (l : Layout). l .tally) (c .before .before .before .pre .1)))
+returns c = placed-all _ (c .before .loop .inv) (omega (arith, array-count _ (c .before .before .before .pre .1)))
 
 pub array-records-spec : {M : Type 1} → statement M
 array-records-spec =

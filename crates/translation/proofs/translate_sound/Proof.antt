@@ -13,17 +13,17 @@ use Rattle.translation.proofs.Wholes.{length-new}
 use Rattle.translation.proofs.translate_sound.Statement.{statement}
 use Rattle.translation.proofs.translate_sound.Tie as tie
 
-find-sections-requires : tie.Need-find-sections-requires
-find-sections-requires c κs = let d = c .before .before in checked (d .args .table .now) (d .pre) .whole
+find-places-requires : tie.Need-find-places-requires
+find-places-requires c κs = let d = c .before .before in checked (d .args .table .now) (d .pre) .whole
 
 new-records-requires : tie.Need-new-records-requires
-new-records-requires c κs = let d = c .before .before .before in (checked (d .args .table .now) (d .pre), c .find-sections .ensures)
+new-records-requires c κs = let d = c .before .before .before in (checked (d .args .table .now) (d .pre), c .find-places .ensures)
 
 has-room-requires : tie.Need-has-room-requires
 has-room-requires c κs = tt
 
 check-bounds-requires : tie.Need-check-bounds-requires
-check-bounds-requires c κs = let d = c .before .before .before .before .before in (checked (d .args .table .now) (d .pre), c .before .before .find-sections .ensures)
+check-bounds-requires c κs = let d = c .before .before .before .before .before in (checked (d .args .table .now) (d .pre), c .before .before .find-places .ensures)
 
 is-within-requires : tie.Need-is-within-requires
 is-within-requires c κs = tt
@@ -56,7 +56,7 @@ write-requires c κs =
     let d = c .before .before .before .before .before .before .before .before .before .before in (
       d .pre,
       (
-        c .before .before .before .before .before .before .before .find-sections .ensures,
+        c .before .before .before .before .before .before .before .find-places .ensures,
         (
           c .before .before .before .before .before .before .new-records .ensures,
           (
@@ -91,7 +91,7 @@ pub translate-sound-spec : {M : Type 1} → statement M
 translate-sound-spec =
     tie.close
     (tie.spec
-    find-sections-requires
+    find-places-requires
     new-records-requires
     has-room-requires
     check-bounds-requires
