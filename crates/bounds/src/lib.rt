@@ -34,6 +34,7 @@ use layout::fields::name_y;
 use layout::fields::x_at;
 use layout::fields::y_at;
 use sections::Places;
+use table::MOST_RECORDS;
 
 pub mod ends;
 
@@ -201,8 +202,8 @@ pub fn check_bounds(s: &[u8], at: Places) -> Bounds
     let mut hull_lows = [0i64; 64];
     let mut hull_highs = [0i64; 64];
     array_hulls(s, at, &mut hull_lows, &mut hull_highs);
-    let mut lows = [0i64; 5000];
-    let mut highs = [0i64; 5000];
+    let mut lows = [0i64; MOST_RECORDS];
+    let mut highs = [0i64; MOST_RECORDS];
     let nodes = at.nodes;
     let count = at.constraints - nodes;
     let mut n = 0;

@@ -6,9 +6,8 @@ ghost use Rattle.answers.specs.Answers as Answers;
 ghost use Rattle.answers.specs.Check.{lengthAllowed};
 ghost use Rattle.verdict.specs.Results.{refusalOf, answerOf};
 ghost use Rattle.checker.specs.Chain.{recordsFault};
+use table::MOST_BYTES;
 use verdict::Check;
-
-const MOST_BYTES: usize = 60_000;
 
 // "length below 12, above 60,000, or no multiple of 12"
 fn length_allowed(table: &[u8]) -> bool

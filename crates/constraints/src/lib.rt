@@ -13,12 +13,14 @@ use operations::values::Value;
 use operations::values::Walked;
 use reading::Reading;
 use sections::Places;
+use table::MOST_BYTES;
+use table::MOST_RECORDS;
 use table::NodeNumber;
 
 // One byte per constraint from byte 0 on, whether no integer node met was beyond the limit, and whether all bytes are 1.
 // Past the limit: zeros, and a no.
 pub struct Verdicts {
-    pub bytes: [u8; 5000],
+    pub bytes: [u8; MOST_RECORDS],
     pub calm: bool,
     pub all: bool,
 }
@@ -37,7 +39,7 @@ fn verdict_byte(value: Value) -> u8
 // The value of the constraint of record p for an assignment under a reading.
 pub fn constraint_value(
     s: &[u8],
-    t: &[u8; 60000],
+    t: &[u8; MOST_BYTES],
     places: &[u32; 69],
     assignment: &[i32],
     reading: Reading,
@@ -55,7 +57,7 @@ pub fn constraint_value(
 pub fn constraint_values(
     s: &[u8],
     at: Places,
-    t: &[u8; 60000],
+    t: &[u8; MOST_BYTES],
     places: &[u32; 69],
     assignment: &[i32],
     reading: Reading,
@@ -64,7 +66,7 @@ pub fn constraint_values(
     requires { ⌜ at ≡ placesOf (now s) ⌝ }
     ensures { λ r. ⌜ r ≡ verdictsOf (now (s .entry)) (meant reading) (now (assignment .entry)) ⌝ }
 {
-    let mut bytes = [0u8; 5000];
+    let mut bytes = [0u8; MOST_RECORDS];
     let mut all = true;
     let first = at.constraints;
     let count = at.rest - first;
@@ -72,7 +74,7 @@ pub fn constraint_values(
     while i < count {
         let walked = constraint_value(s, t, places, assignment, reading, first + i);
         if !walked.calm {
-            let zeros = [0u8; 5000];
+            let zeros = [0u8; MOST_RECORDS];
             return Verdicts {
                 bytes: zeros,
                 calm: false,

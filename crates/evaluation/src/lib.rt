@@ -23,6 +23,8 @@ use reading::reading_of;
 use sections::Places;
 use sections::find_places;
 use steps::total_steps;
+use table::MOST_BYTES;
+use table::MOST_RECORDS;
 use verdict::Check;
 use verdict::is_sound;
 
@@ -96,7 +98,7 @@ fn admit(table: &[u8], at: Places, assignment: &[i32], budget: u32, room: usize)
 }
 
 // Copies the first bytes to the front of the lent list.
-fn write(bytes: &[u8; 5000], count: usize, out: &mut [u8])
+fn write(bytes: &[u8; MOST_RECORDS], count: usize, out: &mut [u8])
     requires { ⌜ length (now bytes) ≡ 5000 ⌝ }
     requires { ⌜ count ≤ 5000 ⌝ }
     requires { ⌜ count ≤ length (now out) ⌝ }
@@ -124,7 +126,7 @@ fn evaluate_admitted(
     requires { ⌜ length (constraints (now table)) ≤ length (now verdicts) ⌝ }
     ensures { λ r. ⌜ outcomeOf r (now (verdicts .exit)) ≡ outcomeAfter (now (table .entry)) (now (assignment .entry)) (meant reading) (now (verdicts .entry)) ⌝ }
 {
-    let mut t = [0u8; 60000];
+    let mut t = [0u8; MOST_BYTES];
     fill(&mut t, table);
     let places = lay_out(table, at);
     let found = constraint_values(table, at, &t, &places, assignment, reading);

@@ -23,6 +23,7 @@ use operations::values::limited_value;
 use operations::values::undefined;
 use reading::Reading;
 use table::ArrayNumber;
+use table::MOST_BYTES;
 use table::NodeNumber;
 use table::SlotNumber;
 use table::VariableNumber;
@@ -50,7 +51,7 @@ pub fn slot(setting: &[i32; 16], s: SlotNumber) -> i32
 }
 
 // What an element record gives: a constant, or the variable that it names.
-fn element_value(t: &[u8; 60000], assignment: &[i32], k: u32) -> i32
+fn element_value(t: &[u8; MOST_BYTES], assignment: &[i32], k: u32) -> i32
     requires { ⌜ k < 5000 ⌝ }
     ensures { λ r. ⌜ r ≡ elementValue (now (assignment .entry)) (elementOf (now (t .entry)) k) ⌝ }
 {
@@ -62,7 +63,7 @@ fn element_value(t: &[u8; 60000], assignment: &[i32], k: u32) -> i32
 }
 
 // The element of the array of record k at an index: undefined outside.
-fn element_in(t: &[u8; 60000], assignment: &[i32], k: u32, index: i32) -> Value
+fn element_in(t: &[u8; MOST_BYTES], assignment: &[i32], k: u32, index: i32) -> Value
     requires { ⌜ behindArray (now t) k ≤ 5000 ⌝ }
     ensures { λ r. ⌜ r ≡ ofInteger (elementAt (now (assignment .entry)) (arrayOf (now (t .entry)) k) index) ⌝ }
 {
@@ -78,7 +79,7 @@ fn element_in(t: &[u8; 60000], assignment: &[i32], k: u32, index: i32) -> Value
 
 // The element of an array at an index; an array that is not declared has none.
 pub fn element(
-    t: &[u8; 60000],
+    t: &[u8; MOST_BYTES],
     places: &[u32; 69],
     assignment: &[i32],
     array: ArrayNumber,
@@ -96,7 +97,7 @@ pub fn element(
 }
 
 pub fn looked_up(
-    t: &[u8; 60000],
+    t: &[u8; MOST_BYTES],
     places: &[u32; 69],
     assignment: &[i32],
     array: ArrayNumber,
@@ -115,7 +116,7 @@ pub fn looked_up(
 
 // The same in a bool array.
 pub fn looked_up_truth(
-    t: &[u8; 60000],
+    t: &[u8; MOST_BYTES],
     places: &[u32; 69],
     assignment: &[i32],
     reading: Reading,
@@ -144,7 +145,7 @@ pub enum Leaf {
 }
 
 pub fn leaf_at(
-    t: &[u8; 60000],
+    t: &[u8; MOST_BYTES],
     places: &[u32; 69],
     assignment: &[i32],
     setting: &[i32; 16],

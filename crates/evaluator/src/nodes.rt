@@ -11,6 +11,7 @@ use crate::records::named_y;
 use crate::records::x_at;
 use operations::values::Value;
 use table::ArrayNumber;
+use table::MOST_BYTES;
 use table::NodeNumber;
 use table::SlotNumber;
 use table::VariableNumber;
@@ -52,21 +53,21 @@ pub enum TruthNode {
     Forall(SlotNumber, NodeNumber),
 }
 
-fn node_x(t: &[u8; 60000], k: u32) -> NodeNumber
+fn node_x(t: &[u8; MOST_BYTES], k: u32) -> NodeNumber
     requires { ⌜ k < 5000 ⌝ }
     ensures { λ r. ⌜ r ≡ node (natAbs (records.xAt (now (t .entry)) k)) ⌝ }
 {
     NodeNumber(named_x(t, k))
 }
 
-fn node_y(t: &[u8; 60000], k: u32) -> NodeNumber
+fn node_y(t: &[u8; MOST_BYTES], k: u32) -> NodeNumber
     requires { ⌜ k < 5000 ⌝ }
     ensures { λ r. ⌜ r ≡ node (natAbs (records.yAt (now (t .entry)) k)) ⌝ }
 {
     NodeNumber(named_y(t, k))
 }
 
-pub fn integer_node(t: &[u8; 60000], places: &[u32; 69], n: NodeNumber) -> IntegerNode
+pub fn integer_node(t: &[u8; MOST_BYTES], places: &[u32; 69], n: NodeNumber) -> IntegerNode
     requires { ⌜ nodesFrom (now places) + n .0 < 5000 ⌝ }
     ensures { λ r. ⌜ r ≡ integerCase (rowOf (now (t .entry)) (nodesFrom (now (places .entry)) + n .0)) ⌝ }
 {
@@ -90,7 +91,7 @@ pub fn integer_node(t: &[u8; 60000], places: &[u32; 69], n: NodeNumber) -> Integ
     }
 }
 
-pub fn truth_node(t: &[u8; 60000], places: &[u32; 69], n: NodeNumber) -> TruthNode
+pub fn truth_node(t: &[u8; MOST_BYTES], places: &[u32; 69], n: NodeNumber) -> TruthNode
     requires { ⌜ nodesFrom (now places) + n .0 < 5000 ⌝ }
     ensures { λ r. ⌜ r ≡ truthCase (rowOf (now (t .entry)) (nodesFrom (now (places .entry)) + n .0)) ⌝ }
 {

@@ -10,6 +10,7 @@ ghost use Rattle.language.specs.Meaning.{count, slotAt};
 ghost use Rattle.evaluator.specs.Walks.{Laid, declared, rangeOf};
 use crate::records::x_at;
 use crate::records::y_at;
+use table::MOST_BYTES;
 use table::SlotNumber;
 
 // Where the first slot's record and the number of slots stand among the places.
@@ -43,7 +44,7 @@ fn values_between(low: i32, high: i32) -> u32
 }
 
 // The range of a slot; of one that is not declared it is empty.
-pub fn range_of(t: &[u8; 60000], places: &[u32; 69], s: SlotNumber) -> Range
+pub fn range_of(t: &[u8; MOST_BYTES], places: &[u32; 69], s: SlotNumber) -> Range
     requires { ⌜ Laid (now t) (now places) ⌝ }
     ensures { λ r. ⌜ r ≡ rangeOf (slotAt (declared (now (t .entry)) (now (places .entry))) (s .0)) ⌝ }
 {

@@ -3,6 +3,11 @@ ghost use mathlib.Core.Path.{_≡_};
 ghost use Prim.Native.Nat.{_+_, _<_};
 ghost use lib.IntN.{natAbs};
 ghost use Rattle.table.specs.Records as records;
+use table::KIND;
+use table::MOST_BYTES;
+use table::RECORD_SIZE;
+use table::X;
+use table::Y;
 
 fn wide(b: u8) -> u32
     ensures { λ r. ⌜ (r ≡ b) × (r < 256) ⌝ }
@@ -11,7 +16,7 @@ fn wide(b: u8) -> u32
 }
 
 // Four bytes, low byte first.
-fn word(t: &[u8; 60000], i: usize) -> u32
+fn word(t: &[u8; MOST_BYTES], i: usize) -> u32
     requires { ⌜ i + 3 < 60000 ⌝ }
     ensures { λ r. ⌜ r ≡ records.wordAt (now (t .entry)) i ⌝ }
 {
@@ -40,43 +45,43 @@ fn magnitude(w: u32) -> u32
     }
 }
 
-pub fn kind_at(t: &[u8; 60000], k: u32) -> u8
+pub fn kind_at(t: &[u8; MOST_BYTES], k: u32) -> u8
     requires { ⌜ k < 5000 ⌝ }
     ensures { λ r. ⌜ r ≡ records.kindAt (now (t .entry)) k ⌝ }
 {
     let i = k as usize;
-    t[12 * i + 2]
+    t[RECORD_SIZE * i + KIND]
 }
 
-pub fn x_at(t: &[u8; 60000], k: u32) -> i32
+pub fn x_at(t: &[u8; MOST_BYTES], k: u32) -> i32
     requires { ⌜ k < 5000 ⌝ }
     ensures { λ r. ⌜ r ≡ records.xAt (now (t .entry)) k ⌝ }
 {
     let i = k as usize;
-    signed(word(t, 12 * i + 4))
+    signed(word(t, RECORD_SIZE * i + X))
 }
 
-pub fn y_at(t: &[u8; 60000], k: u32) -> i32
+pub fn y_at(t: &[u8; MOST_BYTES], k: u32) -> i32
     requires { ⌜ k < 5000 ⌝ }
     ensures { λ r. ⌜ r ≡ records.yAt (now (t .entry)) k ⌝ }
 {
     let i = k as usize;
-    signed(word(t, 12 * i + 8))
+    signed(word(t, RECORD_SIZE * i + Y))
 }
 
 // The number that the field x names.
-pub fn named_x(t: &[u8; 60000], k: u32) -> u32
+pub fn named_x(t: &[u8; MOST_BYTES], k: u32) -> u32
     requires { ⌜ k < 5000 ⌝ }
     ensures { λ r. ⌜ r ≡ natAbs (records.xAt (now (t .entry)) k) ⌝ }
 {
     let i = k as usize;
-    magnitude(word(t, 12 * i + 4))
+    magnitude(word(t, RECORD_SIZE * i + X))
 }
 
-pub fn named_y(t: &[u8; 60000], k: u32) -> u32
+pub fn named_y(t: &[u8; MOST_BYTES], k: u32) -> u32
     requires { ⌜ k < 5000 ⌝ }
     ensures { λ r. ⌜ r ≡ natAbs (records.yAt (now (t .entry)) k) ⌝ }
 {
     let i = k as usize;
-    magnitude(word(t, 12 * i + 8))
+    magnitude(word(t, RECORD_SIZE * i + Y))
 }

@@ -43,12 +43,13 @@ use operations::values::limited_value;
 use operations::values::of_calm;
 use operations::values::truth_of;
 use reading::Reading;
+use table::MOST_BYTES;
 use table::NodeNumber;
 use table::SlotNumber;
 
 // An integer operand: a leaf is worked out on the spot.
 fn operand(
-    t: &[u8; 60000],
+    t: &[u8; MOST_BYTES],
     places: &[u32; 69],
     assignment: &[i32],
     setting: &mut [i32; 16],
@@ -66,7 +67,7 @@ fn operand(
 
 // The value of an integer node.
 fn integer(
-    t: &[u8; 60000],
+    t: &[u8; MOST_BYTES],
     places: &[u32; 69],
     assignment: &[i32],
     setting: &mut [i32; 16],
@@ -130,7 +131,7 @@ fn integer(
 
 // The value of a Boolean node.
 fn truth(
-    t: &[u8; 60000],
+    t: &[u8; MOST_BYTES],
     places: &[u32; 69],
     assignment: &[i32],
     setting: &mut [i32; 16],
@@ -219,7 +220,7 @@ fn truth(
 
 // The sum of a body over a slot's values. After each the slot has its outer value again.
 fn sum(
-    t: &[u8; 60000],
+    t: &[u8; MOST_BYTES],
     places: &[u32; 69],
     assignment: &[i32],
     setting: &mut [i32; 16],
@@ -270,7 +271,7 @@ fn joins(q: Quantifier) -> Connective
 
 // A quantifier's body over its slot's values, joined from the left.
 fn quantified(
-    t: &[u8; 60000],
+    t: &[u8; MOST_BYTES],
     places: &[u32; 69],
     assignment: &[i32],
     setting: &mut [i32; 16],
@@ -302,7 +303,7 @@ fn quantified(
 
 // The value of a constraint for an assignment under a reading. It has no free slot, so the values that the slots begin with do not matter.
 pub fn constraint(
-    t: &[u8; 60000],
+    t: &[u8; MOST_BYTES],
     places: &[u32; 69],
     assignment: &[i32],
     reading: Reading,

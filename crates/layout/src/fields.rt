@@ -6,6 +6,10 @@ ghost use lib.IntN.{natAbs};
 ghost use Rattle.table.specs.Records.{recordSize, wordAt, kindAt, xAt, yAt};
 ghost use Rattle.table.specs.Records as Records;
 ghost use Rattle.layout.specs.Bytes.{Byte};
+use table::KIND;
+use table::RECORD_SIZE;
+use table::X;
+use table::Y;
 
 fn wide(b: u8) -> u32
     ensures { λ r. ⌜ Byte b r ⌝ }
@@ -48,7 +52,7 @@ pub fn kind_at(s: &[u8], k: usize) -> u8
     requires { ⌜ recordSize * k + recordSize ≤ length (now s) ⌝ }
     ensures { λ r. ⌜ r ≡ kindAt (now (s .entry)) k ⌝ }
 {
-    s[12 * k + 2]
+    s[RECORD_SIZE * k + KIND]
 }
 
 // x and y of record k, as signed numbers.
@@ -56,14 +60,14 @@ pub fn x_at(s: &[u8], k: usize) -> i64
     requires { ⌜ recordSize * k + recordSize ≤ length (now s) ⌝ }
     ensures { λ r. ⌜ r ≡ xAt (now (s .entry)) k ⌝ }
 {
-    signed(word_at(s, 12 * k + 4))
+    signed(word_at(s, RECORD_SIZE * k + X))
 }
 
 pub fn y_at(s: &[u8], k: usize) -> i64
     requires { ⌜ recordSize * k + recordSize ≤ length (now s) ⌝ }
     ensures { λ r. ⌜ r ≡ yAt (now (s .entry)) k ⌝ }
 {
-    signed(word_at(s, 12 * k + 8))
+    signed(word_at(s, RECORD_SIZE * k + Y))
 }
 
 // The numbers that x and y of record k name.
@@ -71,12 +75,12 @@ pub fn name_x(s: &[u8], k: usize) -> usize
     requires { ⌜ recordSize * k + recordSize ≤ length (now s) ⌝ }
     ensures { λ r. ⌜ r ≡ natAbs (xAt (now (s .entry)) k) ⌝ }
 {
-    named(word_at(s, 12 * k + 4))
+    named(word_at(s, RECORD_SIZE * k + X))
 }
 
 pub fn name_y(s: &[u8], k: usize) -> usize
     requires { ⌜ recordSize * k + recordSize ≤ length (now s) ⌝ }
     ensures { λ r. ⌜ r ≡ natAbs (yAt (now (s .entry)) k) ⌝ }
 {
-    named(word_at(s, 12 * k + 8))
+    named(word_at(s, RECORD_SIZE * k + Y))
 }

@@ -9,10 +9,9 @@ ghost use Rattle.answers.specs.Listing.{choiceOf, listingOf, listing};
 ghost use Rattle.listing.specs.Texts.{longestText, textFor};
 use lines::put_lines;
 use lines::put_refusal;
+use table::MOST_BYTES;
 use table::RECORD_SIZE;
 use translation::translate;
-
-const MOST_BYTES: usize = 60_000;
 
 // The longest text.
 pub const MOST_TEXT: usize = 175_000;

@@ -8,9 +8,10 @@ ghost use Rattle.sections.specs.Places.{placesOf};
 ghost use Rattle.preparation.specs.Prepared.{padded, PlacesOf};
 use layout::array_records;
 use sections::Places;
+use table::MOST_BYTES;
 
 // Copies the table into an array of zeros.
-pub fn fill(t: &mut [u8; 60000], table: &[u8])
+pub fn fill(t: &mut [u8; MOST_BYTES], table: &[u8])
     requires { ⌜ now t ≡ replicate mostBytes 0 ⌝ }
     requires { ⌜ length (now table) ≤ mostBytes ⌝ }
     ensures { λ r. ⌜ now (t .exit) ≡ padded (now (table .entry)) ⌝ }

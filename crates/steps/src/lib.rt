@@ -22,6 +22,7 @@ use layout::fields::name_y;
 use layout::fields::x_at;
 use layout::fields::y_at;
 use sections::Places;
+use table::MOST_RECORDS;
 
 // Whose steps a node of each kind takes over: 0 nobody's, 1 those of node x, 2 of node y, 3 of both, 4 of the body y for each value of slot x.
 const SHAPES: [u8; 31] = [
@@ -73,11 +74,11 @@ fn capped(steps: u64) -> u64
 }
 
 // The steps kept at k: 0 where there are none.
-fn kept(costs: &[u64; 5000], k: usize) -> u64
+fn kept(costs: &[u64; MOST_RECORDS], k: usize) -> u64
     requires { ⌜ length (now costs) ≡ 5000 ⌝ }
     ensures { λ r. ⌜ r ≡ getD (now (costs .entry)) k 0 ⌝ }
 {
-    if k < 5000 { costs[k] } else { 0 }
+    if k < MOST_RECORDS { costs[k] } else { 0 }
 }
 
 // How many values lie from low to high.
@@ -108,7 +109,7 @@ fn slot_count(s: &[u8], at: Places, n: usize) -> u64
 }
 
 // The steps of node n from those of the nodes before it: 1, and those of its operands.
-fn node_steps(s: &[u8], at: Places, shapes: &[u8; 31], costs: &[u64; 5000], n: usize) -> u64
+fn node_steps(s: &[u8], at: Places, shapes: &[u8; 31], costs: &[u64; MOST_RECORDS], n: usize) -> u64
     requires { ⌜ checkFault (now s) ≡ none ⌝ }
     requires { ⌜ at ≡ placesOf (now s) ⌝ }
     requires { ⌜ now shapes ≡ map shapeOf kinds ⌝ }
@@ -132,7 +133,7 @@ fn node_steps(s: &[u8], at: Places, shapes: &[u8; 31], costs: &[u64; 5000], n: u
 }
 
 // The steps of all constraints from those of the nodes.
-fn constraint_steps(s: &[u8], at: Places, costs: &[u64; 5000]) -> u64
+fn constraint_steps(s: &[u8], at: Places, costs: &[u64; MOST_RECORDS]) -> u64
     requires { ⌜ checkFault (now s) ≡ none ⌝ }
     requires { ⌜ at ≡ placesOf (now s) ⌝ }
     requires { ⌜ Kept (now s) (nodeCount (now s)) (now costs) ⌝ }
@@ -156,7 +157,7 @@ pub fn total_steps(s: &[u8], at: Places) -> u64
     ensures { λ r. ⌜ r ≡ Capped.capped (totalCost (now (s .entry))) ⌝ }
 {
     let shapes = SHAPES;
-    let mut costs = [0u64; 5000];
+    let mut costs = [0u64; MOST_RECORDS];
     let count = at.constraints - at.nodes;
     let mut n = 0;
     while n < count {

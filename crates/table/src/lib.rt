@@ -30,13 +30,18 @@ pub enum Mark {
 // The bytes of a record, and where in it its parts stand.
 pub const RECORD_SIZE: usize = 12;
 
-const KIND: usize = 2;
+pub const KIND: usize = 2;
 
 const AUX: usize = 3;
 
-const X: usize = 4;
+pub const X: usize = 4;
 
-const Y: usize = 8;
+pub const Y: usize = 8;
+
+// The longest table, in bytes and in records.
+pub const MOST_BYTES: usize = 60_000;
+
+pub const MOST_RECORDS: usize = 5_000;
 
 pub fn first_letter(m: Mark) -> u8
     ensures { λ r. ⌜ r ≡ Records.firstLetter (markOf m) ⌝ }

@@ -27,14 +27,13 @@ use reading::Reading;
 use reading::reading_of;
 use sections::Places;
 use sections::find_places;
+use table::MOST_BYTES;
 use table::RECORD_SIZE;
 use translator::new_records;
 use translator::writer::put_record;
 use verdict::Check;
 use verdict::is_sound;
 use writing::put_nodes_and_constraints;
-
-const MOST_BYTES: usize = 60_000;
 
 // What a translation answers. Each refusal has the record that it is about, where there is one.
 pub enum Translation {

@@ -9,6 +9,7 @@ ghost use lib.Seq.{sets};
 ghost use Rattle.table.specs.Records.{recordSize};
 ghost use Rattle.translator.specs.Cells.{place, resolve, rowsFrom, cellsBytes};
 use crate::writer::put_record;
+use table::RECORD_SIZE;
 
 fn index(b: u8) -> usize
     ensures { λ r. ⌜ r ≡ b ⌝ }
@@ -60,7 +61,7 @@ pub fn put_rows(
         let kind = kind_of(rows[r], own);
         let x = word_of(env, base, rows[r + 1]);
         let y = word_of(env, base, rows[r + 2]);
-        put_record(out, at + 12 * j, b'N', b'D', kind, x, y);
+        put_record(out, at + RECORD_SIZE * j, b'N', b'D', kind, x, y);
         j += 1;
     }
 }

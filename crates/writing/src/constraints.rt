@@ -11,10 +11,18 @@ ghost use Rattle.writing.specs.Constraints.{constraintsOver};
 use crate::words::kept;
 use layout::fields::name_x;
 use sections::Places;
+use table::MOST_RECORDS;
+use table::RECORD_SIZE;
 use translator::writer::put_record;
 
 // Writes the constraints as records from record `from` on; P of a node is its first position.
-pub fn put_constraints(s: &[u8], at: Places, firsts: &[u32; 5000], from: usize, out: &mut [u8])
+pub fn put_constraints(
+    s: &[u8],
+    at: Places,
+    firsts: &[u32; MOST_RECORDS],
+    from: usize,
+    out: &mut [u8],
+)
     requires { ⌜ Passed (now s) ⌝ }
     requires { ⌜ at ≡ placesOf (now s) ⌝ }
     requires { ⌜ length (now firsts) ≡ 5_000 ⌝ }
@@ -26,7 +34,7 @@ pub fn put_constraints(s: &[u8], at: Places, firsts: &[u32; 5000], from: usize, 
     let mut i = 0;
     while i < count {
         let p = kept(firsts, name_x(s, first + i));
-        put_record(out, 12 * (from + i), b'C', b'N', 0, p, 0);
+        put_record(out, RECORD_SIZE * (from + i), b'C', b'N', 0, p, 0);
         i += 1;
     }
 }

@@ -20,6 +20,8 @@ use layout::array_records;
 use layout::fields::kind_at;
 use reading::Reading;
 use sections::Places;
+use table::MOST_RECORDS;
+use table::RECORD_SIZE;
 use translator::rows::put_rows;
 use translator::rows::word_of;
 use translator::tables::PLANS;
@@ -65,8 +67,8 @@ pub fn put_nodes_and_constraints(s: &[u8], at: Places, reading: Reading, out: &m
     let codes = x_codes();
     let arrays = array_records(s, at);
     let first = first_plan(reading);
-    let mut firsts = [0u32; 5000];
-    let mut seconds = [0u32; 5000];
+    let mut firsts = [0u32; MOST_RECORDS];
+    let mut seconds = [0u32; MOST_RECORDS];
     let nodes = at.nodes;
     let count = at.constraints - nodes;
     let mut next = 0u32;
@@ -77,7 +79,7 @@ pub fn put_nodes_and_constraints(s: &[u8], at: Places, reading: Reading, out: &m
         let words = node_words(s, nodes + n, &codes, &arrays, &firsts, &seconds);
         put_rows(
             out,
-            12 * (nodes + next as usize),
+            RECORD_SIZE * (nodes + next as usize),
             &rows,
             counted(plans[plan]),
             counted(plans[plan + 1]),

@@ -20,6 +20,9 @@ use layout::fields::kind_at;
 use layout::fields::name_y;
 use layout::fields::named;
 use layout::fields::word_at;
+use table::MOST_RECORDS;
+use table::RECORD_SIZE;
+use table::X;
 
 // The 32 bits of an array's first and last index.
 pub struct Indexes {
@@ -32,16 +35,16 @@ fn within(k: usize) -> usize
     ensures { λ r. ⌜ r ≡ cond (ltb k 5_000) k 0 ⌝ }
     ensures { λ r. ⌜ r < 5_000 ⌝ }
 {
-    if k < 5000 { k } else { 0 }
+    if k < MOST_RECORDS { k } else { 0 }
 }
 
 // A position that is kept: 0 where there is none.
-pub fn kept(positions: &[u32; 5000], k: usize) -> u32
+pub fn kept(positions: &[u32; MOST_RECORDS], k: usize) -> u32
     requires { ⌜ length (now positions) ≡ 5_000 ⌝ }
     ensures { λ r. ⌜ r ≡ getD (now (positions .entry)) k 0 ⌝ }
 {
     let held = positions[within(k)];
-    if k < 5000 { held } else { 0 }
+    if k < MOST_RECORDS { held } else { 0 }
 }
 
 // The 32 bits of what x stands for by itself, as its operand's code tells.
@@ -70,7 +73,7 @@ fn array_indexes(s: &[u8], p: usize) -> Indexes
     requires { ⌜ p < recordCount (now s) ⌝ }
     ensures { λ r. ⌜ r ≡ indexesOf true (arrayOf (now (s .entry)) p) ⌝ }
 {
-    let first = word_at(s, 12 * p + 4);
+    let first = word_at(s, RECORD_SIZE * p + X);
     Indexes {
         first,
         last: last_word(first, name_y(s, p)),
@@ -104,8 +107,8 @@ pub fn node_words(
     p: usize,
     codes: &[u8; 31],
     arrays: &[usize; 64],
-    firsts: &[u32; 5000],
-    seconds: &[u32; 5000],
+    firsts: &[u32; MOST_RECORDS],
+    seconds: &[u32; MOST_RECORDS],
 ) -> [u32; 16]
     requires { ⌜ KnownNode (now s) p ⌝ }
     requires { ⌜ KnownArrays (now s) ⌝ }
@@ -116,7 +119,7 @@ pub fn node_words(
     ensures { λ r. ⌜ r ≡ nodeWords (declarations (now (s .entry))) (now (firsts .entry)) (now (seconds .entry)) (kindAt (now (s .entry)) p) (xAt (now (s .entry)) p) (yAt (now (s .entry)) p) ⌝ }
 {
     let code = codes[kind_at(s, p) as usize];
-    let w = word_at(s, 12 * p + 4);
+    let w = word_at(s, RECORD_SIZE * p + X);
     let x = named(w);
     let y = name_y(s, p);
     let ends = looked_up(s, arrays, code, x);
