@@ -1,7 +1,7 @@
 #!/bin/sh
-# A function with a large frame touches its stack page by page at its start, in a loop that counts in register r11. The compiler has been
-# seen to put early returns before that loop and to keep a value in r11 across it, which is then lost: proved code that answers wrongly. So
-# this looks at the machine code itself: in no function is r11 written before the loop.
+# A function with a large frame touches its stack page by page at its start, in a loop that counts in register r11. The compiler may put
+# early returns before that loop and keep a value in r11 across it, which is then lost: proved code that answers wrongly. So this looks at
+# the machine code itself: in no function is r11 written before the loop.
 # probes.sh FILE..: ends with 1 where a file has such a function, or no loop at all.
 set -u
 work=$(mktemp -d) || exit 1
