@@ -38,6 +38,7 @@ pub fn all(calls: &dyn Calls) -> Vec<Input> {
         ("wide and flat", flat()),
         ("chain of nots", limits::chain_of_nots(DEPTH)),
         ("chain of adds", limits::chain_of_adds(DEPTH)),
+        ("chain of foralls", limits::chain_of_foralls(DEPTH)),
         ("chain through both types", limits::chain_of_types(DEPTH)),
     ];
     for (name, table) in walks {

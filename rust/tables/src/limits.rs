@@ -84,6 +84,13 @@ pub fn chain_of_adds(depth: usize) -> Table {
     chain.node(Node::at_most(0, last)).constraint(last + 1)
 }
 
+/// A chain of this many quantifiers over true, each over a range of one value.
+pub fn chain_of_foralls(depth: usize) -> Table {
+    let start = Table::new().slot(0, 0).node(Node::truth(1));
+    let chain = (0..depth as i32).fold(start, |table, node| table.node(Node::forall(0, node)));
+    chain.constraint(depth as i32)
+}
+
 /// A chain of this many quantifiers and conversions between the types: the
 /// deepest walk that goes through every evaluator.
 pub fn chain_of_types(depth: usize) -> Table {
@@ -134,7 +141,12 @@ pub fn both_sides() -> Vec<Table> {
         tables.extend([value, -value, value.wrapping_add(1), -value - 1].map(constant));
     }
     for depth in [0, 1, 4_900] {
-        let chains = [chain_of_nots, chain_of_adds, chain_of_types];
+        let chains = [
+            chain_of_nots,
+            chain_of_adds,
+            chain_of_foralls,
+            chain_of_types,
+        ];
         tables.extend(chains.map(|chain| chain(depth)));
     }
     tables.extend([10, 20, 31, 32, 64, 4_900].map(doubling));

@@ -534,6 +534,7 @@ fn deep_chains(calls: &dyn Calls) {
             assert_eq!(calls.verdict(choice, &limits::chain_of_nots(4_900)), 1);
             assert_eq!(calls.verdict(choice, &limits::chain_of_nots(4_901)), 0);
             assert_eq!(calls.verdict(choice, &limits::chain_of_adds(4_900)), 1);
+            assert_eq!(calls.verdict(choice, &limits::chain_of_foralls(4_900)), 1);
             assert_eq!(calls.verdict(choice, &limits::chain_of_types(4_900)), 1);
         }
     });
