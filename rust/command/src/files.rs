@@ -1,12 +1,10 @@
 //! Tables from files and standard input, and the file that is replaced.
 
 use crate::arguments::Source;
+use barfigol::MOST_BYTES;
 use std::fs::{self, File, OpenOptions};
 use std::io::{self, Read, Write};
 use std::path::{Path, PathBuf};
-
-/// The bytes of the longest table.
-pub const MOST_BYTES: usize = 60_000;
 
 /// Reads a table. One byte more than the longest table is read, so that a
 /// longer one is seen to be too long, however long it is.

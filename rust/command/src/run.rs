@@ -2,8 +2,8 @@
 
 use crate::arguments::{Point, Request, Source};
 use crate::explain::{explain, Call};
-use crate::files::{self, MOST_BYTES};
-use barfigol::{Choice, Refusal};
+use crate::files;
+use barfigol::{Choice, Refusal, MOST_BYTES};
 use barfigol_tables::{pretty, ROW_BYTES};
 use std::io::{self, Write};
 use std::path::Path;

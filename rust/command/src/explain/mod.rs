@@ -10,8 +10,7 @@ mod place;
 #[cfg(test)]
 mod tests;
 
-use crate::files::MOST_BYTES;
-use barfigol::Refusal;
+use barfigol::{Refusal, MOST_BYTES};
 use barfigol_tables::{cost, rows_of, Table, ROW_BYTES};
 use intervals::Beyond;
 use place::{numbered, Place};
@@ -44,7 +43,7 @@ pub fn explain(call: Call, table: &[u8], refusal: &Refusal) -> String {
     let rows = rows_of(table);
     let place = Place::new(&rows, record as usize);
     let fault = fault(call, table, &place, refusal);
-    let meaning = format!("  number {number}: {refusal}\n");
+    let meaning = format!("  number {number}: {}\n", refusal.reason());
     if !is_about_record(call, refusal) {
         return format!("refused {number}: {fault}\n{meaning}");
     }
@@ -62,7 +61,7 @@ fn fault(call: Call, table: &[u8], place: &Place, refusal: &Refusal) -> String {
         _ => fault_of_call(call, table, refusal).into_iter().collect(),
     };
     if faults.is_empty() {
-        refusal.to_string()
+        refusal.reason().to_string()
     } else {
         faults.join("; ")
     }
