@@ -93,8 +93,8 @@ barfigol_answer barfigol_check(const uint8_t *table, size_t table_len);
  * Works out each constraint of a table for one assignment, under one reading.
  *
  * Reads the table and assignment[0 .. assignment_len): one value for each variable, in their order.
- * Writes one byte for each constraint, in their order: 0 false, 1 true, 2 undefined. verdicts_len is at least
- * the number of constraints.
+ * Writes one byte for each constraint, in their order: 0 false, 1 true, 2 undefined. It is refused with 9 where
+ * verdicts_len is below the number of constraints.
  * Gives 0 to 11. On 0, `steps` is the cost of all constraints, which no assignment changes, `length` the number
  * of constraints, and `all_true` is true where every verdict is 1, also where there is no constraint.
  * The time it takes grows with the steps, of which budget is the most that is allowed.
