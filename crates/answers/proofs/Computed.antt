@@ -27,7 +27,7 @@ checked table = Answers.check table
 
 -- evaluation
 unfoldable pub evaluated : ℕ → List ℕ → Meaning.Assignment → ℕ → List ℕ → Answers.Outcome
-unfolding bind checked Bounds.noVariable Bounds.variableAt Readings.both Readings.arithmetic Readings.part Readings.division Readings.comparison Readings.logic Readings.strictly Readings.kleeneAnd Readings.kleeneOr Readings.opposite Readings.kleenely Readings.connective Readings.closed Readings.over Readings.joins Readings.ofNone Readings.quantified Readings.summed Steps.costI Answers.outcome Answers.readingOf Answers.unset Answers.assignmentFault Answers.costs Answers.totalCost Answers.valueOfConstraint Answers.allCalm Answers.verdict Answers.verdicts Answers.allOne Answers.evaluationFault Answers.evaluateUnder Answers.underChoice Answers.evaluate
+unfolding bind checked Bounds.noVariable Bounds.variableAt Readings.both Readings.arithmetic Readings.part Readings.division Readings.comparison Readings.logic Readings.strictly Readings.kleeneAnd Readings.kleeneOr Readings.opposite Readings.kleenely Readings.connective Readings.closed Readings.over Readings.joins Readings.ofNone Readings.quantified Readings.summed Steps.costI Answers.outcome Answers.readingOf Answers.unset Answers.assignmentFault Answers.costs Answers.totalCost Answers.valueOfConstraint Answers.allCalm Answers.verdicts Answers.allOne Answers.evaluationFault Answers.evaluateUnder Answers.underChoice Answers.evaluate
 evaluated choice table α budget lent = Answers.evaluate choice table α budget lent
 
 -- translation

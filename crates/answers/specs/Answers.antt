@@ -61,6 +61,17 @@ check table = elim (checkFault table) [ none ↦ done 0 0 false | some r ↦ ref
 unfoldable pub unset : Setting
 unset s = pos 0
 
+-- "one byte per constraint (0 false, 1 true, 2 undefined)"
+abbrev pub verdict : Option Bool → ℕ
+verdict (some false) = 0
+verdict (some true) = 1
+verdict none = 2
+
+-- "whether all are 1 (yes where there is none)"
+unfoldable pub allOne : List ℕ → Bool
+allOne [] = true
+allOne (v ∷ vs) = eqb v 1 && allOne vs
+
 module _ (table : List ℕ) where
   -- "10: assignment of wrong length, or first value outside its domain: 0; that VR"
   unfoldable pub assignmentFault : Assignment → Option Refusal
@@ -87,19 +98,8 @@ module _ (table : List ℕ) where
     allCalm [] = true
     allCalm (k ∷ ks) = calmB ρ (declarations table) α (treeB (nodeTrees table) k) unset && allCalm ks
 
-    -- "one byte per constraint (0 false, 1 true, 2 undefined)"
-    unfoldable pub verdict : Option Bool → ℕ
-    verdict (some false) = 0
-    verdict (some true) = 1
-    verdict none = 2
-
     unfoldable pub verdicts : List ℕ
     verdicts = map (λ k. verdict (valueOfConstraint k)) (constraints table)
-
-    -- "whether all are 1 (yes where there is none)"
-    unfoldable pub allOne : List ℕ → Bool
-    allOne [] = true
-    allOne (v ∷ vs) = eqb v 1 && allOne vs
 
     -- "Evaluate: then 10, 9, 11, 8."
     unfoldable pub evaluationFault : ℕ → ℕ → Option Refusal

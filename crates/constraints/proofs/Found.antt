@@ -40,7 +40,7 @@ module _ (table : List ℕ) (ρ : Reading) (α : Assignment) where
     verdictsOf-bytes = rw calm (take-at (verdicts table ρ α) _ (length (constraints table)) length-verdicts)
 
     -- and it tells whether all are 1.
-    pub verdictsOf-all : verdictsOf table ρ α .all ≡ allOne table ρ α (verdicts table ρ α)
+    pub verdictsOf-all : verdictsOf table ρ α .all ≡ allOne (verdicts table ρ α)
     unfolding verdictsOf
     verdictsOf-all = rw calm
 

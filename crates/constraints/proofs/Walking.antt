@@ -29,7 +29,7 @@ use Rattle.operations.specs.Values.{ofCalm, ofTruth, truthOf}
 use Rattle.evaluator.specs.Walks.{Laid, truthWalked, truthAt}
 use Rattle.preparation.specs.Prepared.{Prepared}
 use Rattle.preparation.proofs.Laid.{prepared-laid, truthAt-prepared}
-use Rattle.constraints.specs.Verdicts.{byteOf, walkedAt, ConstraintAt, verdictsOf}
+use Rattle.constraints.specs.Verdicts.{walkedAt, ConstraintAt, verdictsOf}
 
 -- ---- tests
 
@@ -90,7 +90,7 @@ module _ (table : List ℕ) (ρ : Reading) (α : Assignment) where
   calmAt k = calmB ρ (declarations table) α (treeB (nodeTrees table) k) unset
 
   abbrev pub byteAt : ℕ → ℕ
-  byteAt k = verdict table ρ α (valueOfConstraint table ρ α k)
+  byteAt k = verdict (valueOfConstraint table ρ α k)
 
   -- what holds when i constraints have been walked
   pub record Walked-so-far (bytes : List ℕ) (all : Bool) (i : ℕ) : Type 0 where
@@ -98,7 +98,7 @@ module _ (table : List ℕ) (ρ : Reading) (α : Assignment) where
     pub calm : allCalm table ρ α (listed i nodeAt) ≡ true
     pub written : take i bytes ≡ map byteAt (listed i nodeAt)
     pub zeros : drop i bytes ≡ replicate (5000 - i) 0
-    pub all-one : all ≡ allOne table ρ α (map byteAt (listed i nodeAt))
+    pub all-one : all ≡ allOne (map byteAt (listed i nodeAt))
 
   -- ---- one more
 
@@ -107,10 +107,10 @@ module _ (table : List ℕ) (ρ : Reading) (α : Assignment) where
   allCalm-snoc [] k = &&-true (calmAt k)
   allCalm-snoc (j ∷ ks) k = ap (λ (b : Bool). calmAt j && b) (allCalm-snoc ks k) ∙ &&-assoc (calmAt j) (allCalm table ρ α ks) (calmAt k)
 
-  allOne-snoc : (vs : List ℕ) (v : ℕ) → allOne table ρ α (vs ++ (v ∷ [])) ≡ (allOne table ρ α vs && eqb v 1)
+  allOne-snoc : (vs : List ℕ) (v : ℕ) → allOne (vs ++ (v ∷ [])) ≡ (allOne vs && eqb v 1)
   unfolding allOne
   allOne-snoc [] v = &&-true (eqb v 1)
-  allOne-snoc (w ∷ vs) v = ap (λ (b : Bool). eqb w 1 && b) (allOne-snoc vs v) ∙ &&-assoc (eqb w 1) (allOne table ρ α vs) (eqb v 1)
+  allOne-snoc (w ∷ vs) v = ap (λ (b : Bool). eqb w 1 && b) (allOne-snoc vs v) ∙ &&-assoc (eqb w 1) (allOne vs) (eqb v 1)
 
   -- what a walk says of its constraint
   walked-calm : (k : ℕ) {w : Walked} → w ≡ walkedAt table ρ α k → w .calm ≡ calmAt k
@@ -121,11 +121,11 @@ module _ (table : List ℕ) (ρ : Reading) (α : Assignment) where
       by-calm true v = refl
       by-calm false v = refl
 
-  walked-byte : (k : ℕ) {w : Walked} → w ≡ walkedAt table ρ α k → w .calm ≡ true → byteOf (truthOf (w .value)) ≡ byteAt k
-  unfolding walkedAt truthWalked valueOfConstraint verdict
-  walked-byte k e c = ap (λ (w : Walked). byteOf (truthOf (w .value))) e ∙ by-calm (calmAt k) (valueOfConstraint table ρ α k) (sym (walked-calm k e) ∙ c)
+  walked-byte : (k : ℕ) {w : Walked} → w ≡ walkedAt table ρ α k → w .calm ≡ true → verdict (truthOf (w .value)) ≡ byteAt k
+  unfolding walkedAt truthWalked valueOfConstraint
+  walked-byte k e c = ap (λ (w : Walked). verdict (truthOf (w .value))) e ∙ by-calm (calmAt k) (valueOfConstraint table ρ α k) (sym (walked-calm k e) ∙ c)
     where
-      by-calm : (b : Bool) (v : Option Bool) → b ≡ true → byteOf (truthOf (ofCalm b (ofTruth v) .value)) ≡ verdict table ρ α v
+      by-calm : (b : Bool) (v : Option Bool) → b ≡ true → verdict (truthOf (ofCalm b (ofTruth v) .value)) ≡ verdict v
       by-calm true none q = refl
       by-calm true (some true) q = refl
       by-calm true (some false) q = refl
@@ -139,7 +139,7 @@ module _ (table : List ℕ) (ρ : Reading) (α : Assignment) where
   one-less i l = omega arith
 
   pub walked-more : {bytes : List ℕ} {all : Bool} {i p v : ℕ} {w : Walked} → Walked-so-far bytes all i → i < 5000 → p ≡ constraintsAt table + i
-      → w ≡ walkedAt table ρ α (natAbs (xAt table p)) → w .calm ≡ true → v ≡ byteOf (truthOf (w .value))
+      → w ≡ walkedAt table ρ α (natAbs (xAt table p)) → w .calm ≡ true → v ≡ verdict (truthOf (w .value))
       → Walked-so-far (set bytes i v) (all && eqb v 1) (i + 1)
   unfolding listed
   walked-more {bytes} {all} {i} {p} {v} s l q e c f =

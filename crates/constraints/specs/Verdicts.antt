@@ -1,9 +1,8 @@
 -- What one assignment makes of a table's constraints, as the code has it.
 -- Assumes nothing.
 use Prim.Native.Nat.{ℕ, _-_, _≤_, _<_}
-use mathlib.Core.Bool.{Bool, true, false, cond}
+use mathlib.Core.Bool.{true, false, cond}
 use mathlib.Core.List.{List, _++_}
-use mathlib.Core.Option.{Option, none, some}
 use lib.ListN.{length, replicate}
 use Rattle.language.specs.Readings.{Reading}
 use Rattle.language.specs.Tables.{treeB}
@@ -13,12 +12,6 @@ use Rattle.answers.specs.Answers.{unset, allCalm, verdicts, allOne}
 use Rattle.operations.specs.declared.values.Walked.{Walked}
 use Rattle.evaluator.specs.Walks.{truthWalked}
 use Rattle.constraints.specs.declared.Verdicts.{Verdicts}
-
--- "one byte per constraint (0 false, 1 true, 2 undefined)"
-abbrev pub byteOf : Option Bool → ℕ
-byteOf (some false) = 0
-byteOf (some true) = 1
-byteOf none = 2
 
 -- what the walk over node k gives, as a constraint
 unfoldable pub walkedAt : List ℕ → Reading → Assignment → ℕ → Walked
@@ -33,5 +26,5 @@ pub record ConstraintAt (table : List ℕ) (p : ℕ) : Type 0 where
 unfoldable pub verdictsOf : List ℕ → Reading → Assignment → Verdicts
 verdictsOf table ρ α =
     cond (allCalm table ρ α (constraints table))
-    (record { bytes = verdicts table ρ α ++ replicate (5000 - length (verdicts table ρ α)) 0; calm = true; all = allOne table ρ α (verdicts table ρ α) })
+    (record { bytes = verdicts table ρ α ++ replicate (5000 - length (verdicts table ρ α)) 0; calm = true; all = allOne (verdicts table ρ α) })
     (record { bytes = replicate 5000 0; calm = false; all = false })

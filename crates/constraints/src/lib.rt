@@ -2,11 +2,12 @@
 ghost use mathlib.Core.Path.{_≡_};
 ghost use lib.IntN.{natAbs};
 ghost use Rattle.table.specs.Records.{xAt};
+ghost use Rattle.answers.specs.Answers.{verdict};
 ghost use Rattle.sections.specs.Places.{placesOf};
 ghost use Rattle.reading.specs.Readings.{meant};
 ghost use Rattle.operations.specs.Values.{truthOf};
 ghost use Rattle.preparation.specs.Prepared.{Prepared};
-ghost use Rattle.constraints.specs.Verdicts.{byteOf, walkedAt, ConstraintAt, verdictsOf};
+ghost use Rattle.constraints.specs.Verdicts.{walkedAt, ConstraintAt, verdictsOf};
 use evaluator::walk::constraint;
 use layout::fields::name_x;
 use operations::values::Value;
@@ -27,7 +28,7 @@ pub struct Verdicts {
 
 // "0 false, 1 true, 2 undefined"
 fn verdict_byte(value: Value) -> u8
-    ensures { λ r. ⌜ r ≡ byteOf (truthOf value) ⌝ }
+    ensures { λ r. ⌜ r ≡ verdict (truthOf value) ⌝ }
 {
     match value {
         Value::Integer(_) => 2,

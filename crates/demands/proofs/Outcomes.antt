@@ -25,7 +25,7 @@ abbrev pub translation-done : List ℕ → Reading → Answer
 translation-done table ρ = done 0 (length (translation table ρ)) false
 
 abbrev pub evaluation-done : List ℕ → Reading → Assignment → Answer
-evaluation-done table ρ α = done (totalCost table) (length (verdicts table ρ α)) (allOne table ρ α (verdicts table ρ α))
+evaluation-done table ρ α = done (totalCost table) (length (verdicts table ρ α)) (allOne (verdicts table ρ α))
 
 -- A fault with none behind it.
 orElse-none-right : (a : Option Refusal) → orElse a none ≡ a

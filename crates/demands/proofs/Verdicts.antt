@@ -27,37 +27,36 @@ module _ (table : List ℕ) (ρ : Reading) (α : Assignment) where
   length-verdicts = length-map (constraints table) _
 
   -- in the constraints' order.
-  pub getD-verdicts : (i : ℕ) → i < length (constraints table) → getD (verdicts table ρ α) i 0 ≡ verdict table ρ α (valueOfConstraint table ρ α (constraintAt table i))
+  pub getD-verdicts : (i : ℕ) → i < length (constraints table) → getD (verdicts table ρ α) i 0 ≡ verdict (valueOfConstraint table ρ α (constraintAt table i))
   unfolding verdicts constraintAt
-  getD-verdicts i l = getD-map (λ k. verdict table ρ α (valueOfConstraint table ρ α k)) (constraints table) i 0 0 l
+  getD-verdicts i l = getD-map (λ k. verdict (valueOfConstraint table ρ α k)) (constraints table) i 0 0 l
 
   -- A verdict is 1 exactly for true.
-  one→true : (v : Option Bool) → T (eqb (verdict table ρ α v) 1) → v ≡ some true
-  unfolding verdict
+  one→true : (v : Option Bool) → T (eqb (verdict v) 1) → v ≡ some true
   one→true none t = absurd t
   one→true (some true) t = refl
   one→true (some false) t = absurd t
 
   -- the verdicts of a list of nodes
   abbrev verdictsOf : List ℕ → List ℕ
-  verdictsOf ks = map (λ k. verdict table ρ α (valueOfConstraint table ρ α k)) ks
+  verdictsOf ks = map (λ k. verdict (valueOfConstraint table ρ α k)) ks
 
   -- If all are 1, all nodes are true,
-  all-one→true : (ks : List ℕ) → T (allOne table ρ α (verdictsOf ks)) → (i : ℕ) → i < length ks → valueOfConstraint table ρ α (getD ks i 0) ≡ some true
+  all-one→true : (ks : List ℕ) → T (allOne (verdictsOf ks)) → (i : ℕ) → i < length ks → valueOfConstraint table ρ α (getD ks i 0) ≡ some true
   unfolding allOne
   all-one→true [] t i l = absurd (not-suc-le-zero l)
-  all-one→true (k ∷ ks) t zero l = one→true (valueOfConstraint table ρ α k) (&&-fst (eqb (verdict table ρ α (valueOfConstraint table ρ α k)) 1) (allOne table ρ α (verdictsOf ks)) t)
+  all-one→true (k ∷ ks) t zero l = one→true (valueOfConstraint table ρ α k) (&&-fst (eqb (verdict (valueOfConstraint table ρ α k)) 1) (allOne (verdictsOf ks)) t)
   all-one→true (k ∷ ks) t (suc i) l =
-      all-one→true ks (&&-snd (eqb (verdict table ρ α (valueOfConstraint table ρ α k)) 1) (allOne table ρ α (verdictsOf ks)) t) i (le-of-suc-le-suc l)
+      all-one→true ks (&&-snd (eqb (verdict (valueOfConstraint table ρ α k)) 1) (allOne (verdictsOf ks)) t) i (le-of-suc-le-suc l)
 
   -- and the other way round.
-  true→all-one : (ks : List ℕ) → ((i : ℕ) → i < length ks → valueOfConstraint table ρ α (getD ks i 0) ≡ some true) → allOne table ρ α (verdictsOf ks) ≡ true
-  unfolding allOne verdict
+  true→all-one : (ks : List ℕ) → ((i : ℕ) → i < length ks → valueOfConstraint table ρ α (getD ks i 0) ≡ some true) → allOne (verdictsOf ks) ≡ true
+  unfolding allOne
   true→all-one [] h = refl
   true→all-one (k ∷ ks) h = rw (h 0 (omega arith), true→all-one ks (λ i l. h (suc i) (omega arith))) refl
 
   -- All verdicts are 1 exactly if all constraints are true.
-  pub allOne-verdicts : allOne table ρ α (verdicts table ρ α) ≡ true ↔ ((i : ℕ) → i < length (constraints table) → valueOfConstraint table ρ α (constraintAt table i) ≡ some true)
+  pub allOne-verdicts : allOne (verdicts table ρ α) ≡ true ↔ ((i : ℕ) → i < length (constraints table) → valueOfConstraint table ρ α (constraintAt table i) ≡ some true)
   unfolding verdicts constraintAt
   allOne-verdicts = (λ e. all-one→true (constraints table) (rw e tt), λ h. true→all-one (constraints table) h)
 

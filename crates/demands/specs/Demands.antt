@@ -126,7 +126,7 @@ constraintAt table i = getD (constraints table) i 0
 pub record Evaluated (table : List ℕ) (ρ : Reading) (α : Assignment) (lent : List ℕ) (o : Outcome) : Type 0 where
   -- 0 false, 1 true, 2 undefined
   pub values : (i : ℕ) → i < length (constraints table)
-      → getD (o .lent) i 0 ≡ verdict table ρ α (valueOfConstraint table ρ α (constraintAt table i))
+      → getD (o .lent) i 0 ≡ verdict (valueOfConstraint table ρ α (constraintAt table i))
   pub rest-as-it-was : drop (length (constraints table)) (o .lent) ≡ drop (length (constraints table)) lent
   pub one-byte-each : o .answer .length-written ≡ length (constraints table)
   -- "The total is the sum over all constraints, shared nodes counted each time."

@@ -169,5 +169,5 @@ module _ (table : List ℕ) (ρ : Reading) (α : Assignment) {found : Verdicts} 
         let calm : allCalm table ρ α (constraints table) ≡ true = calm-or-not c in
         let bytes : take (totals .written) (found .bytes) ≡ verdicts table ρ α = rw (w, walked) (verdictsOf-bytes table ρ α calm) in
         let count : totals .written ≡ length (verdicts table ρ α) = w ∙ sym (length-verdicts table ρ α) in
-        let all : found .all ≡ allOne table ρ α (verdicts table ρ α) = ap (λ (r : Verdicts). r .all) walked ∙ verdictsOf-all table ρ α calm in
+        let all : found .all ≡ allOne (verdicts table ρ α) = ap (λ (r : Verdicts). r .all) walked ∙ verdictsOf-all table ρ α calm in
         rw (calm, e, bytes, s, count, a, all)

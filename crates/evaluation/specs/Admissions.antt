@@ -26,7 +26,7 @@ module _ (table : List ℕ) (α : Assignment) where
   unfoldable pub outcomeAfter : Reading → List ℕ → Outcome
   outcomeAfter ρ lent =
       outcome (cond (allCalm table ρ α (constraints table)) none (refuse 8 0))
-      (done (totalCost table) (length (verdicts table ρ α)) (allOne table ρ α (verdicts table ρ α))) (verdicts table ρ α) lent
+      (done (totalCost table) (length (verdicts table ρ α)) (allOne (verdicts table ρ α))) (verdicts table ρ α) lent
 
 abbrev pub admissionFault : Admission → Option Refusal
 admissionFault (Steps n) = none
