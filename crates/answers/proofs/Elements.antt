@@ -24,7 +24,7 @@ pub ||-otherwise : (a b : Bool) → T (a || b) → T (not a) → T b
 -- The EL record p of an array of type t has no fault.
 pub record ElementPassed (bs : List ℕ) (t : Sort) (p : ℕ) : Type 0 where
   pub mark : T (marked bs EL p)
-  pub allowed : T (isKind (kindAt bs p) && eqb (auxAt bs p) 0 && isZero (yAt bs p) && constantAllowed bs t (kindAt bs p) (xAt bs p))
+  pub allowed : T (isKind (kindAt bs p) && eqb (auxAt bs p) 0 && isZero (yAt bs p) && constantAllowed t (kindAt bs p) (xAt bs p))
   pub named : T (eqb (kindAt bs p) 0 || names (variableCount bs) (xAt bs p))
   pub typed : T (eqb (kindAt bs p) 0 || sameSort (variableSort bs (xAt bs p)) t)
 

@@ -92,7 +92,7 @@ module _ (bs : List ℕ) where
   -- ---- fields
 
   -- A field without a fault fits,
-  pub passed→FieldFits : (n : ℕ) (F : Field) (z : ℤ) → T (fieldAllowed bs F z) → T (fieldNames bs n F z) → T (fieldTyped bs F z)
+  pub passed→FieldFits : (n : ℕ) (F : Field) (z : ℤ) → T (fieldAllowed F z) → T (fieldNames bs n F z) → T (fieldTyped bs F z)
       → FieldFits (declarations bs) (rowsBelow n) F z
   unfolding fieldAllowed fieldNames fieldTyped isZero
   passed→FieldFits n unused z a b c = eqZ→≡ z (pos 0) a
@@ -111,7 +111,7 @@ module _ (bs : List ℕ) where
 
   -- and a field that fits has no fault.
   pub FieldFits→passed : (n : ℕ) (F : Field) (z : ℤ) → FieldFits (declarations bs) (rowsBelow n) F z
-      → T (fieldAllowed bs F z) × T (fieldNames bs n F z) × T (fieldTyped bs F z)
+      → T (fieldAllowed F z) × T (fieldNames bs n F z) × T (fieldTyped bs F z)
   unfolding fieldAllowed fieldNames fieldTyped isZero
   FieldFits→passed n unused z h = (rw h (eqZ-refl (pos 0)), tt, tt)
   FieldFits→passed n anyNumber z h = (tt, tt, tt)

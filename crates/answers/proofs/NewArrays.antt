@@ -8,12 +8,12 @@ use mathlib.Core.List.{List, [], _∷_}
 use mathlib.Core.Option.{none}
 use lib.Dec.{T, eqb}
 use lib.IntN.{ℤ, natAbs}
-use Rattle.language.specs.Syntax.{Sort, boolean, integer}
+use Rattle.language.specs.Syntax.{Sort}
 use Rattle.language.specs.Readings.{Reading}
 use Rattle.table.specs.Records.{AR, EL, recordCount, firstLetter, kindAt, xAt, yAt}
 use Rattle.table.proofs.Alike.{marked-alike, kindAt-alike, auxAt-alike, xAt-alike, yAt-alike}
 use Rattle.answers.specs.Sections.{sortOfKind, behindArray, arraysFrom, arraysEnd, variablesAt, arraysAt, nodesAt, variableCount, arrayRecords}
-use Rattle.answers.specs.Check.{names, sameSort, variableSort, constantAllowed, arraysFault}
+use Rattle.answers.specs.Check.{names, sameSort, variableSort, arraysFault}
 use Rattle.answers.specs.Answers.{newCount, translation}
 use Rattle.answers.proofs.ArrayRuns.{ArrayPassed, ArraysPassed, ArraysPassed→walk, ArraysPassed-ordered, ArraysPassed-length}
 use Rattle.answers.proofs.Elements.{ElementPassed, none→ElementPassed, ElementPassed→none}
@@ -22,12 +22,6 @@ use Rattle.answers.proofs.NewRecords.{recordCount-translation, copied-a
 use Rattle.answers.proofs.NewSections.{unmarked-kept, arraysAt-new, variableCount-new}
 use Rattle.answers.proofs.SameFaults.{arrayFault-alike}
 use Rattle.answers.proofs.Translatable.{Translatable}
-
--- What constants an array may have does not depend on the table.
-constantAllowed-same : (bs cs : List ℕ) (t : Sort) (k : ℕ) (x : ℤ) → constantAllowed bs t k x ≡ constantAllowed cs t k x
-unfolding constantAllowed
-constantAllowed-same bs cs boolean k x = refl
-constantAllowed-same bs cs integer k x = refl
 
 module _ (bs : List ℕ) (ρ : Reading) where
   -- the translation
@@ -52,7 +46,7 @@ module _ (bs : List ℕ) (ρ : Reading) where
         let a = copied-alike bs ρ (h .passed) p l b in
         record {
           mark = rw (marked-alike a EL) (e .mark);
-          allowed = rw (kindAt-alike a, auxAt-alike a, xAt-alike a, yAt-alike a, constantAllowed-same new bs) (e .allowed);
+          allowed = rw (kindAt-alike a, auxAt-alike a, xAt-alike a, yAt-alike a) (e .allowed);
           named = rw (kindAt-alike a, xAt-alike a, variableCount-new bs ρ h) (e .named);
           typed = rw (kindAt-alike a, xAt-alike a) (typed-kept t (eqb (kindAt bs p) 0) (xAt bs p) (e .named) (e .typed));
         }

@@ -67,7 +67,7 @@ module _ (bs : List ℕ) (n p : ℕ) where
       rw (h .kind-is, nodeFault)
       (neither
       (unless-none 3 _
-      (&&-intro (eqb (auxAt bs p) 0 && fieldAllowed bs X (xAt bs p)) _ (&&-intro (eqb (auxAt bs p) 0) _ (rw (h .aux-is) (eqb-refl 0)) (x .0)) (y .0)))
+      (&&-intro (eqb (auxAt bs p) 0 && fieldAllowed X (xAt bs p)) _ (&&-intro (eqb (auxAt bs p) 0) _ (rw (h .aux-is) (eqb-refl 0)) (x .0)) (y .0)))
       (neither (unless-none 4 _ (&&-intro (fieldNames bs n X (xAt bs p)) _ (x .1) (y .1)))
       (unless-none 5 _ (&&-intro (fieldTyped bs X (xAt bs p)) _ (x .2) (y .2)))))
 

@@ -59,7 +59,7 @@ module _ (bs : List ℕ) where
   -- ---- domains
 
   -- A domain that is allowed is not empty.
-  domainAllowed→≤ : (k : ℕ) (x y : ℤ) → T (domainAllowed bs k x y) → x ≤ℤ y
+  domainAllowed→≤ : (k : ℕ) (x y : ℤ) → T (domainAllowed k x y) → x ≤ℤ y
   unfolding domainAllowed isZero
   domainAllowed→≤ k x y = go (eqb k 0)
     where

@@ -61,6 +61,25 @@ names n z = nonNeg z && ltb (natAbs z) n
 unfoldable pub isKind : ℕ → Bool
 isKind k = leb k 1
 
+-- a VR's domain: "bool is 0..1; integer needs x ≤ y"
+unfoldable pub domainAllowed : ℕ → ℤ → ℤ → Bool
+domainAllowed k x y = cond (eqb k 0) (isZero x && eqZ y (pos 1)) (leZ x y)
+
+-- an EL's x in an array of a type: "constant x (0 or 1 in a bool array)"
+unfoldable pub constantAllowed : Sort → ℕ → ℤ → Bool
+constantAllowed boolean k x = not (eqb k 0) || isBit x
+constantAllowed integer k x = true
+
+-- a number in a field of a node; one that is to name something may be any here
+unfoldable pub fieldAllowed : Field → ℤ → Bool
+fieldAllowed unused z = isZero z
+fieldAllowed anyNumber z = true
+fieldAllowed truthValue z = isBit z
+fieldAllowed (variableNumber t) z = true
+fieldAllowed slotNumber z = true
+fieldAllowed (arrayNumber t) z = true
+fieldAllowed (nodeNumber t) z = true
+
 module _ (bs : List ℕ) where
   -- ---- what a number names
 
@@ -82,9 +101,6 @@ module _ (bs : List ℕ) where
       (unless 3 (eqb (kindAt bs p) 1 && eqb (auxAt bs p) 0 && eqZ (xAt bs p) (pos (recordCount bs)) && isZero (yAt bs p)))
 
   -- "VR: domain x..y; bool is 0..1; integer needs x ≤ y; at most 256"
-  unfoldable pub domainAllowed : ℕ → ℤ → ℤ → Bool
-  domainAllowed k x y = cond (eqb k 0) (isZero x && eqZ y (pos 1)) (leZ x y)
-
   unfoldable pub variableFault : ℕ → ℕ → Option ℕ
   variableFault i p =
       unless 3 (ltb i mostVariables && isKind (kindAt bs p) && eqb (auxAt bs p) 0 && domainAllowed (kindAt bs p) (xAt bs p) (yAt bs p))
@@ -104,10 +120,6 @@ module _ (bs : List ℕ) where
       && between (pos 1) (pos mostElements) (yAt bs p))
 
   -- "EL: 0 constant x (0 or 1 in a bool array), 1 variable number x", in an array of type t
-  unfoldable pub constantAllowed : Sort → ℕ → ℤ → Bool
-  constantAllowed boolean k x = not (eqb k 0) || isBit x
-  constantAllowed integer k x = true
-
   unfoldable pub elementFault : Sort → ℕ → Option ℕ
   elementFault t p =
       orElse (unless 2 (marked bs EL p))
@@ -117,15 +129,6 @@ module _ (bs : List ℕ) where
 
   -- A field of a node: 3 where its number is not allowed, 4 where it names nothing, 5 where that has the wrong type. n is the node's
   -- own number: "An operand node has a smaller number than its user."
-  unfoldable pub fieldAllowed : Field → ℤ → Bool
-  fieldAllowed unused z = isZero z
-  fieldAllowed anyNumber z = true
-  fieldAllowed truthValue z = isBit z
-  fieldAllowed (variableNumber t) z = true
-  fieldAllowed slotNumber z = true
-  fieldAllowed (arrayNumber t) z = true
-  fieldAllowed (nodeNumber t) z = true
-
   unfoldable pub fieldNames : ℕ → Field → ℤ → Bool
   fieldNames n unused z = true
   fieldNames n anyNumber z = true

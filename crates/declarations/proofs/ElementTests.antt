@@ -56,15 +56,15 @@ module _ (bs : List ℕ) (s p : ℕ) where
     abbrev allowed : Bool
     allowed = leb k 1 && eqb a 0 && eqb y 0 && (not (eqb s 0) || (not (eqb k 0) || leb x 1))
 
-    constant-test : (not (eqb s 0) || (not (eqb k 0) || leb x 1)) ≡ constantAllowed bs (sortOfKind s) k (signed x)
+    constant-test : (not (eqb s 0) || (not (eqb k 0) || leb x 1)) ≡ constantAllowed (sortOfKind s) k (signed x)
     unfolding sortOfKind constantAllowed
     constant-test = go (eqb s 0)
       where
-        go : (b : Bool) → (not b || (not (eqb k 0) || leb x 1)) ≡ constantAllowed bs (cond b boolean integer) k (signed x)
+        go : (b : Bool) → (not b || (not (eqb k 0) || leb x 1)) ≡ constantAllowed (cond b boolean integer) k (signed x)
         go true = rw (bit-word x)
         go false = refl
 
-    allowed-test : (isKind (kindAt bs p) && eqb (auxAt bs p) 0 && isZero (yAt bs p) && constantAllowed bs (sortOfKind s) (kindAt bs p) (xAt bs p)) ≡ allowed
+    allowed-test : (isKind (kindAt bs p) && eqb (auxAt bs p) 0 && isZero (yAt bs p) && constantAllowed (sortOfKind s) (kindAt bs p) (xAt bs p)) ≡ allowed
     unfolding isKind xAt yAt
     allowed-test = rw (constant-test, ← (zero-word y), f .kind, f .aux, f .first, f .second)
 

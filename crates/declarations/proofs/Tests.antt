@@ -2,7 +2,7 @@
 -- Assumes nothing.
 use mathlib.Core.Path.{_≡_, refl}
 use mathlib.Core.Bool.{Bool, true, false, _&&_}
-use mathlib.Core.List.{List, []}
+use mathlib.Core.List.{List}
 use mathlib.Core.Option.{Option, some, orElse}
 use Prim.Native.Nat.{ℕ, _+_, _*_, _≤_, _<_}
 use native.Mathlib.Omega.{arith}
@@ -37,17 +37,17 @@ module _ (bs : List ℕ) where
 
 -- ---- VR
 
-pub boolean-domain : (k x y : ℕ) → k ≡ 0 → (eqb x 0 && eqb y 1) ≡ domainAllowed [] k (signed x) (signed y)
+pub boolean-domain : (k x y : ℕ) → k ≡ 0 → (eqb x 0 && eqb y 1) ≡ domainAllowed k (signed x) (signed y)
 unfolding domainAllowed
 boolean-domain k x y e = rw (eq-eqb k 0 e, zero-word x, eq-word y 1 (omega arith))
 
-pub integer-domain : (k x y : ℕ) → ¬ (k ≡ 0) → x < 0x1_0000_0000 → y < 0x1_0000_0000 → leb (lift x) (lift y) ≡ domainAllowed [] k (signed x) (signed y)
+pub integer-domain : (k x y : ℕ) → ¬ (k ≡ 0) → x < 0x1_0000_0000 → y < 0x1_0000_0000 → leb (lift x) (lift y) ≡ domainAllowed k (signed x) (signed y)
 unfolding domainAllowed
 integer-domain k x y e hx hy = rw (ne-eqb k 0 e, le-words x y hx hy)
 
 module _ (bs : List ℕ) (p : ℕ) {k a x y : ℕ} (ek : k ≡ kindAt bs p) (ea : a ≡ auxAt bs p) (ex : x ≡ wordAt bs (recordSize * p + 4))
     (ey : y ≡ wordAt bs (recordSize * p + 8)) where
-  pub variable-test : (i : ℕ) {d : Bool} → d ≡ domainAllowed [] k (signed x) (signed y)
+  pub variable-test : (i : ℕ) {d : Bool} → d ≡ domainAllowed k (signed x) (signed y)
       → unless 3 (ltb i mostVariables && leb k 1 && eqb a 0 && d) ≡ variableFault bs i p
   unfolding variableFault isKind domainAllowed xAt yAt
   variable-test i ed = rw (ed, ek, ea, ex, ey)

@@ -1,6 +1,5 @@
 // HD, VR, SL, AR and EL: each record by itself, and the first fault of each section.
 ghost use mathlib.Core.Path.{_≡_};
-ghost use mathlib.Core.List.{[]};
 ghost use Prim.Native.Nat.{ℕ, _+_, _%_, _≤_, _<_};
 ghost use lib.ListN.{length};
 ghost use Rattle.table.specs.Records.{recordSize, recordCount, kindAt, signed};
@@ -37,7 +36,7 @@ pub fn header(table: &[u8]) -> Check
 
 // "bool is 0..1; integer needs x ≤ y"
 fn domain_allowed(kind: u8, x: u32, y: u32) -> bool
-    ensures { λ r. ⌜ r ≡ domainAllowed [] kind (signed x) (signed y) ⌝ }
+    ensures { λ r. ⌜ r ≡ domainAllowed kind (signed x) (signed y) ⌝ }
 {
     if kind == 0 {
         (x == 0) & (y == 1)

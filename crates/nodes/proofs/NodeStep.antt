@@ -45,13 +45,13 @@ or-true true = refl
 or-true false = refl
 
 module _ {bs : List ℕ} {n : ℕ} {facts : List ℕ} (f : Field) {w : ℕ} (o : Operand bs n facts f w) where
-  pub outcome : Outcome (fieldAllowed bs f (signed w)) (fieldNames bs n f (signed w)) (fieldTyped bs f (signed w)) (leb (codeOf f) 3)
+  pub outcome : Outcome (fieldAllowed f (signed w)) (fieldNames bs n f (signed w)) (fieldTyped bs f (signed w)) (leb (codeOf f) 3)
       (looked (limitsOf bs n) basesOf facts (codeOf f) w)
   unfolding looked
   outcome = go (inLimit bs n f w) (typed (codeOf f) (factAt facts f w)) (leb (codeOf f) 3) (o .allowed) (o .named) (o .right-type)
     where
-      go : (b e p : Bool) → fieldAllowed bs f (signed w) ≡ not (p && not b) → fieldNames bs n f (signed w) ≡ (p || b) → (b ≡ true → fieldTyped bs f (signed w) ≡ e)
-          → Outcome (fieldAllowed bs f (signed w)) (fieldNames bs n f (signed w)) (fieldTyped bs f (signed w)) p (cond b (cond e (Fact (factAt facts f w)) OtherType) Beyond)
+      go : (b e p : Bool) → fieldAllowed f (signed w) ≡ not (p && not b) → fieldNames bs n f (signed w) ≡ (p || b) → (b ≡ true → fieldTyped bs f (signed w) ≡ e)
+          → Outcome (fieldAllowed f (signed w)) (fieldNames bs n f (signed w)) (fieldTyped bs f (signed w)) p (cond b (cond e (Fact (factAt facts f w)) OtherType) Beyond)
       go true true p a m t = good (a ∙ ap not (and-false p)) (m ∙ or-true p) (t refl)
       go true false p a m t = other (a ∙ ap not (and-false p)) (m ∙ or-true p) (t refl)
       go false e true a m t = shut refl a
@@ -138,7 +138,7 @@ module _ (bs : List ℕ) (n : ℕ) (facts : List ℕ) (known : Known bs n facts)
 
   fault-tests : (k : Kind) → kindOf (kindAt bs (nodesAt bs + n)) ≡ some k
       → nodeFault bs n (nodesAt bs + n)
-      ≡ threeTests (eqb aux 0) (fieldAllowed bs (k .fieldX) (signed x)) (fieldAllowed bs (k .fieldY) (signed y)) (fieldNames bs n (k .fieldX) (signed x))
+      ≡ threeTests (eqb aux 0) (fieldAllowed (k .fieldX) (signed x)) (fieldAllowed (k .fieldY) (signed y)) (fieldNames bs n (k .fieldX) (signed x))
       (fieldNames bs n (k .fieldY) (signed y)) (fieldTyped bs (k .fieldX) (signed x)) (fieldTyped bs (k .fieldY) (signed y))
   unfolding nodeFault kindFault threeTests
   fault-tests k e = rw (e, nodeFault, x-is-signed, y-is-signed, ← ea)
@@ -176,7 +176,7 @@ module _ (bs : List ℕ) (n : ℕ) (facts : List ℕ) (known : Known bs n facts)
 
   -- what was made is a sound node, and its fact
   all-hold : (f : Field) {w : ℕ} → Operand bs n facts f w → inLimit bs n f w ≡ true → typed (codeOf f) (factAt facts f w) ≡ true
-      → (fieldAllowed bs f (signed w) ≡ true) × (fieldNames bs n f (signed w) ≡ true) × (fieldTyped bs f (signed w) ≡ true)
+      → (fieldAllowed f (signed w) ≡ true) × (fieldNames bs n f (signed w) ≡ true) × (fieldTyped bs f (signed w) ≡ true)
   all-hold f o b e = (o .allowed ∙ rw (b, and-false), o .named ∙ rw (b, or-true), o .right-type b ∙ e)
 
   module _ (h : n < nodeCount bs) (k : Kind) (e : kindOf (kindAt bs (nodesAt bs + n)) ≡ some k) {v u w : ℕ}

@@ -34,7 +34,7 @@ factAt facts f w = getD facts (placeOf basesOf (codeOf f) w) 0
 
 pub record Operand (bs : List ℕ) (n : ℕ) (facts : List ℕ) (f : Field) (w : ℕ) : Type 0 where
   pub place : inLimit bs n f w ≡ true → placeOf basesOf (codeOf f) w < 5_339
-  pub allowed : fieldAllowed bs f (signed w) ≡ not (leb (codeOf f) 3 && not (inLimit bs n f w))
+  pub allowed : fieldAllowed f (signed w) ≡ not (leb (codeOf f) 3 && not (inLimit bs n f w))
   pub named : fieldNames bs n f (signed w) ≡ (leb (codeOf f) 3 || inLimit bs n f w)
   pub right-type : inLimit bs n f w ≡ true → fieldTyped bs f (signed w) ≡ typed (codeOf f) (factAt facts f w)
   pub free : inLimit bs n f w ≡ true → typed (codeOf f) (factAt facts f w) ≡ true → (t : ℕ) → t < 16
