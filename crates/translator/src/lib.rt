@@ -1,4 +1,4 @@
-// The new table, record by record.
+// How many records the new table has. The rules' rows and their writer stand in the modules.
 ghost use mathlib.Core.Path.{_≡_};
 ghost use Prim.Native.Nat.{_<_};
 ghost use Rattle.answers.specs.Answers.{newCount};
@@ -15,6 +15,14 @@ pub mod rows;
 pub mod tables;
 pub mod writer;
 
+// The numbers of a plan.
+pub const PLAN_SIZE: usize = 4;
+
+// Where the Kleene and the relational plans begin, behind the strict ones: each reading has a plan for each of 31 kind numbers.
+pub const KLEENE_PLANS: usize = 31 * PLAN_SIZE;
+
+pub const RELATIONAL_PLANS: usize = 2 * KLEENE_PLANS;
+
 // Where the plan of a kind begins under a reading.
 fn plan_index(reading: Reading, kind: u8) -> usize
     requires { ⌜ kind < 31 ⌝ }
@@ -22,9 +30,9 @@ fn plan_index(reading: Reading, kind: u8) -> usize
     ensures { λ r. ⌜ r < 369 ⌝ }
 {
     match reading {
-        Reading::Strict => 4 * kind as usize,
-        Reading::Kleene => 124 + 4 * kind as usize,
-        Reading::Relational => 248 + 4 * kind as usize,
+        Reading::Strict => PLAN_SIZE * kind as usize,
+        Reading::Kleene => KLEENE_PLANS + PLAN_SIZE * kind as usize,
+        Reading::Relational => RELATIONAL_PLANS + PLAN_SIZE * kind as usize,
     }
 }
 

@@ -22,6 +22,9 @@ use reading::Reading;
 use sections::Places;
 use table::MOST_RECORDS;
 use table::RECORD_SIZE;
+use translator::KLEENE_PLANS;
+use translator::PLAN_SIZE;
+use translator::RELATIONAL_PLANS;
 use translator::rows::put_rows;
 use translator::rows::word_of;
 use translator::tables::PLANS;
@@ -37,8 +40,8 @@ fn first_plan(reading: Reading) -> usize
 {
     match reading {
         Reading::Strict => 0,
-        Reading::Kleene => 124,
-        Reading::Relational => 248,
+        Reading::Kleene => KLEENE_PLANS,
+        Reading::Relational => RELATIONAL_PLANS,
     }
 }
 
@@ -75,7 +78,7 @@ pub fn put_nodes_and_constraints(s: &[u8], at: Places, reading: Reading, out: &m
     let mut n = 0;
     while n < count {
         let kind = kind_at(s, nodes + n);
-        let plan = first + 4 * counted(kind);
+        let plan = first + PLAN_SIZE * counted(kind);
         let words = node_words(s, nodes + n, &codes, &arrays, &firsts, &seconds);
         put_rows(
             out,
