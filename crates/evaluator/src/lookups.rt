@@ -9,7 +9,8 @@ ghost use Rattle.reading.specs.Readings.{meant};
 ghost use Rattle.operations.specs.Values.{ofInteger};
 ghost use Rattle.evaluator.specs.Nodes.{nodesFrom};
 ghost use Rattle.evaluator.specs.Walks.{Laid, declared, settingOf, lookedUp, lookedUpTruth, leafOf};
-use crate::nodes::NODES;
+use crate::ARRAY_COUNT;
+use crate::NODES_FROM;
 use crate::ranges::distance;
 use crate::records::kind_at;
 use crate::records::named_x;
@@ -27,9 +28,6 @@ use table::MOST_BYTES;
 use table::NodeNumber;
 use table::SlotNumber;
 use table::VariableNumber;
-
-// Where the number of arrays stands among the places, behind their records.
-const ARRAY_COUNT: usize = 66;
 
 pub fn variable(assignment: &[i32], v: VariableNumber) -> i32
     ensures { λ r. ⌜ r ≡ valueOf (now (assignment .entry)) (v .0) ⌝ }
@@ -154,7 +152,7 @@ pub fn leaf_at(
     requires { ⌜ (nodesFrom (now places) + n .0 < 5000) × (length (now setting) ≡ 16) ⌝ }
     ensures { λ r. ⌜ r ≡ leafOf (now (assignment .entry)) (settingOf (now (setting .entry))) (rowOf (now (t .entry)) (nodesFrom (now (places .entry)) + n .0)) ⌝ }
 {
-    let r = places[NODES] + n.0;
+    let r = places[NODES_FROM] + n.0;
     match kind_at(t, r) {
         1 => Leaf::Is(limited(true, x_at(t, r) as i64)),
         3 => Leaf::Is(limited(

@@ -5,6 +5,7 @@ ghost use lib.IntN.{natAbs};
 ghost use Rattle.table.specs.Records as records;
 ghost use Rattle.answers.specs.Sections.{rowOf};
 ghost use Rattle.evaluator.specs.Nodes.{nodesFrom, node, integerCase, truthCase};
+use crate::NODES_FROM;
 use crate::records::kind_at;
 use crate::records::named_x;
 use crate::records::named_y;
@@ -15,9 +16,6 @@ use table::MOST_BYTES;
 use table::NodeNumber;
 use table::SlotNumber;
 use table::VariableNumber;
-
-// Where the number of the first node's record stands among the places.
-pub const NODES: usize = 67;
 
 pub enum IntegerNode {
     Constant(Value),
@@ -71,7 +69,7 @@ pub fn integer_node(t: &[u8; MOST_BYTES], places: &[u32; 69], n: NodeNumber) -> 
     requires { ⌜ nodesFrom (now places) + n .0 < 5000 ⌝ }
     ensures { λ r. ⌜ r ≡ integerCase (rowOf (now (t .entry)) (nodesFrom (now (places .entry)) + n .0)) ⌝ }
 {
-    let r = places[NODES] + n.0;
+    let r = places[NODES_FROM] + n.0;
     match kind_at(t, r) {
         1 => IntegerNode::Constant(Value::Integer(x_at(t, r))),
         3 => IntegerNode::Variable(VariableNumber(named_x(t, r))),
@@ -95,7 +93,7 @@ pub fn truth_node(t: &[u8; MOST_BYTES], places: &[u32; 69], n: NodeNumber) -> Tr
     requires { ⌜ nodesFrom (now places) + n .0 < 5000 ⌝ }
     ensures { λ r. ⌜ r ≡ truthCase (rowOf (now (t .entry)) (nodesFrom (now (places .entry)) + n .0)) ⌝ }
 {
-    let r = places[NODES] + n.0;
+    let r = places[NODES_FROM] + n.0;
     match kind_at(t, r) {
         2 => TruthNode::Constant(Value::Truth(x_at(t, r) == 1)),
         4 => TruthNode::Variable(VariableNumber(named_x(t, r))),

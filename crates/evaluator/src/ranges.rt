@@ -8,15 +8,12 @@ ghost use mir.Val.{SFits};
 ghost use Prim.Native.Nat.{_≤_};
 ghost use Rattle.language.specs.Meaning.{count, slotAt};
 ghost use Rattle.evaluator.specs.Walks.{Laid, declared, rangeOf};
+use crate::SLOT_COUNT;
+use crate::SLOTS_FROM;
 use crate::records::x_at;
 use crate::records::y_at;
 use table::MOST_BYTES;
 use table::SlotNumber;
-
-// Where the first slot's record and the number of slots stand among the places.
-const SLOTS: usize = 64;
-
-const SLOT_COUNT: usize = 65;
 
 // A slot's first value and how many it has.
 pub struct Range {
@@ -49,7 +46,7 @@ pub fn range_of(t: &[u8; MOST_BYTES], places: &[u32; 69], s: SlotNumber) -> Rang
     ensures { λ r. ⌜ r ≡ rangeOf (slotAt (declared (now (t .entry)) (now (places .entry))) (s .0)) ⌝ }
 {
     if s.0 < places[SLOT_COUNT] {
-        let k = places[SLOTS] + s.0;
+        let k = places[SLOTS_FROM] + s.0;
         let low = x_at(t, k);
         let high = y_at(t, k);
         Range {

@@ -6,6 +6,11 @@ ghost use Rattle.numbers.specs.Limits.{mostBytes};
 ghost use Rattle.layout.specs.Passed.{Passed};
 ghost use Rattle.sections.specs.Places.{placesOf};
 ghost use Rattle.preparation.specs.Prepared.{padded, PlacesOf};
+use evaluator::ARRAY_COUNT;
+use evaluator::NODE_COUNT;
+use evaluator::NODES_FROM;
+use evaluator::SLOT_COUNT;
+use evaluator::SLOTS_FROM;
 use layout::array_records;
 use sections::Places;
 use table::MOST_BYTES;
@@ -39,13 +44,13 @@ pub fn lay_out(s: &[u8], at: Places) -> [u32; 69]
     }
     let slots = at.slots;
     let nodes = at.nodes;
-    let tally = at.array_count;
+    let array_count = at.array_count;
     let slot_count = at.arrays - slots;
     let node_count = at.constraints - nodes;
-    places[64] = slots as u32;
-    places[65] = slot_count as u32;
-    places[66] = tally as u32;
-    places[67] = nodes as u32;
-    places[68] = node_count as u32;
+    places[SLOTS_FROM] = slots as u32;
+    places[SLOT_COUNT] = slot_count as u32;
+    places[ARRAY_COUNT] = array_count as u32;
+    places[NODES_FROM] = nodes as u32;
+    places[NODE_COUNT] = node_count as u32;
     places
 }
