@@ -2,6 +2,7 @@
 // answer's number and record, behind them the steps and "all are 1" of an evaluation or the length of a translation.
 ghost use Prim.Native.Nat.{_≤_};
 use evaluation::Evaluation;
+use table::MOST_BYTES;
 use table::Mark;
 use table::RECORD_SIZE;
 use translation::Translation;
@@ -11,10 +12,10 @@ use verdict::Check;
 // A small table: up to eight records.
 const SMALL: usize = 96;
 
-// As many records as a table may have, and one more.
-const LONGEST: usize = 60_000;
+// As many bytes as a table may have, and one record more.
+const LONGEST: usize = MOST_BYTES;
 
-const TOO_LONG: usize = 60_012;
+const TOO_LONG: usize = MOST_BYTES + RECORD_SIZE;
 
 // ---- tables
 
