@@ -252,19 +252,40 @@ fn tag(sort: Sort) -> u8
     }
 }
 
-// An operand as a number (`Entries.codeOf`).
+// The operands as numbers (`Entries.codeOf`). An integer variable, array or node has 1 more than a Boolean one.
+const MISSING: u8 = 0;
+
+const UNUSED: u8 = 1;
+
+pub const ANY_NUMBER: u8 = 2;
+
+pub const TRUTH_VALUE: u8 = 3;
+
+const SLOT_NUMBER: u8 = 4;
+
+const BOOLEAN_VARIABLE: u8 = 5;
+
+pub const BOOLEAN_ARRAY: u8 = 7;
+
+pub const INTEGER_ARRAY: u8 = 8;
+
+pub const BOOLEAN_NODE: u8 = 9;
+
+pub const INTEGER_NODE: u8 = 10;
+
+// An operand as a number.
 fn code(operand: Operand) -> u8
     ensures { λ r. ⌜ r ≡ operandCode operand ⌝ }
 {
     match operand {
-        Operand::Missing => 0,
-        Operand::Unused => 1,
-        Operand::AnyNumber => 2,
-        Operand::TruthValue => 3,
-        Operand::SlotNumber => 4,
-        Operand::VariableNumber(sort) => 5 + tag(sort),
-        Operand::ArrayNumber(sort) => 7 + tag(sort),
-        Operand::NodeNumber(sort) => 9 + tag(sort),
+        Operand::Missing => MISSING,
+        Operand::Unused => UNUSED,
+        Operand::AnyNumber => ANY_NUMBER,
+        Operand::TruthValue => TRUTH_VALUE,
+        Operand::SlotNumber => SLOT_NUMBER,
+        Operand::VariableNumber(sort) => BOOLEAN_VARIABLE + tag(sort),
+        Operand::ArrayNumber(sort) => BOOLEAN_ARRAY + tag(sort),
+        Operand::NodeNumber(sort) => BOOLEAN_NODE + tag(sort),
     }
 }
 
@@ -272,7 +293,11 @@ fn code(operand: Operand) -> u8
 fn binder(x: u8, y: u8) -> u8
     ensures { λ r. ⌜ r ≡ binderFlag x y ⌝ }
 {
-    if (x == 4) & (9 <= y) { 1 } else { 0 }
+    if (x == SLOT_NUMBER) & (BOOLEAN_NODE <= y) {
+        1
+    } else {
+        0
+    }
 }
 
 // The table in columns, as numbers, for loops that go by data: each column is filled from the entries. The operand codes of x and of y, ..

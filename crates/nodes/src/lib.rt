@@ -13,6 +13,7 @@ ghost use Rattle.answers.specs.Check.{refuse, firstFault, constraintFault};
 ghost use Rattle.verdict.specs.Results.{refusalOf, faultAt};
 ghost use Rattle.nodes.specs.Known.{Arrays, Nodes, NodesChecked, ConstraintAt, Constraints, DeclarationsSound, bodyFault};
 ghost use Rattle.nodes.specs.Facts.{entered, placeOf, looked, isBeyond, joinedOf, madeOf, barred, faultOf};
+use kinds::TRUTH_VALUE;
 use sections::Places;
 use table::NodeNumber;
 use verdict::Check;
@@ -25,6 +26,13 @@ const ARRAYS: usize = 19;
 const VARIABLES: usize = 83;
 
 const NODES: usize = 339;
+
+// Operands' codes as places in what is kept for each code.
+const ANY_NUMBER: usize = kinds::ANY_NUMBER as usize;
+
+const BOOLEAN_NODE: usize = kinds::BOOLEAN_NODE as usize;
+
+const INTEGER_NODE: usize = kinds::INTEGER_NODE as usize;
 
 // What looking at an operand finds.
 pub enum Looked {
@@ -49,7 +57,7 @@ fn look(code: usize, x: u32, limits: &[u64; 11], bases: &[usize; 11], facts: &[u
     if limits[code] <= x as u64 {
         return Looked::Beyond;
     }
-    let i = if code == 2 { 0 } else { x as usize };
+    let i = if code == ANY_NUMBER { 0 } else { x as usize };
     let fact = facts[bases[code] + i];
     if fact % 2 == (code as u32 + 1) % 2 {
         Looked::Fact(fact)
@@ -102,7 +110,7 @@ fn node_fault(aux: u8, x_code: u8, x: Looked, y_code: u8, y: Looked, p: u32) -> 
 {
     let bx = beyond(x);
     let by = beyond(y);
-    if (aux != 0) | ((x_code <= 3) & bx) | ((y_code <= 3) & by) {
+    if (aux != 0) | ((x_code <= TRUTH_VALUE) & bx) | ((y_code <= TRUTH_VALUE) & by) {
         Check::NotAllowed(p)
     } else if bx | by {
         Check::NamesNothing(p)
@@ -191,8 +199,8 @@ fn nodes(
         match made {
             Made::Whole(fact) => {
                 facts[NODES + n] = fact;
-                limits[9] = n as u64 + 1;
-                limits[10] = n as u64 + 1;
+                limits[BOOLEAN_NODE] = n as u64 + 1;
+                limits[INTEGER_NODE] = n as u64 + 1;
             }
             Made::Faulty => {
                 return node_fault(aux, x_code, x, y_code, y, p as u32);
