@@ -2,7 +2,7 @@
 -- Assumes nothing.
 use mathlib.Core.Bool.{Bool, true, false, _&&_}
 use mathlib.Core.Option.{Option, none, some, Option·map}
-use lib.IntN.{ℤ, negℤ}
+use lib.IntN.{ℤ, pos, negsuc, negℤ}
 use Rattle.language.specs.Syntax as syntax
 use Rattle.language.specs.Readings.{both}
 use Rattle.language.specs.Meaning.{number}
@@ -45,3 +45,8 @@ negated a = limitedTo (a .calm) (Option·map negℤ (integerOf (a .value)))
 
 unfoldable pub numbered : Walked → Walked
 numbered a = limitedTo (a .calm) (Option·map number (truthOf (a .value)))
+
+-- a number with its sign turned where `by` is below zero
+abbrev pub turnedBy : ℤ → ℤ → ℤ
+turnedBy (pos n) z = z
+turnedBy (negsuc n) z = negℤ z

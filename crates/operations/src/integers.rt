@@ -6,7 +6,7 @@ ghost use lib.IntN.{pos};
 ghost use Rattle.numbers.specs.Whole.{eqZ};
 ghost use Rattle.numbers.specs.Whole as whole;
 ghost use Rattle.language.specs.Readings as readings;
-ghost use Rattle.operations.specs.Integers.{arithmeticOf, divisionOf, operandsOf, integers, negated, numbered};
+ghost use Rattle.operations.specs.Integers.{arithmeticOf, divisionOf, operandsOf, integers, negated, numbered, turnedBy};
 use crate::values::Value;
 use crate::values::Walked;
 use crate::values::limited;
@@ -88,13 +88,32 @@ fn remainder(x: i32, y: i32) -> i64
     }
 }
 
-// "The quotient is cut toward zero", as the machine's is.
+// A number with its sign turned where `by` is below zero.
+fn turned(z: i32, by: i32) -> i64
+    ensures { λ r. ⌜ r ≡ turnedBy by z ⌝ }
+{
+    if by < 0 { 0 - z as i64 } else { z as i64 }
+}
+
+// "The quotient is cut toward zero": the magnitudes are divided and the sign is put back. A machine divides numbers below zero
+// more slowly.
+fn quotient(x: i32, y: i32) -> i64
+    requires { ⌜ eqZ y (pos 0) ≡ false ⌝ }
+    ensures { λ r. ⌜ r ≡ whole.quotient x y ⌝ }
+{
+    let divisor = turned(y, y);
+    let a = turned(x, y);
+    let dividend = if a < 0 { 0 - a } else { a };
+    let q = dividend / divisor;
+    if a < 0 { 0 - q } else { q }
+}
+
 fn part(op: Division, x: i32, y: i32) -> i64
     requires { ⌜ eqZ y (pos 0) ≡ false ⌝ }
     ensures { λ r. ⌜ r ≡ readings.part (divisionOf op) x y ⌝ }
 {
     match op {
-        Division::Quotient => x as i64 / y as i64,
+        Division::Quotient => quotient(x, y),
         Division::Remainder => remainder(x, y),
     }
 }

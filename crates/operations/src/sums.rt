@@ -36,8 +36,10 @@ pub fn added(total: Total, a: Walked) -> Total
     if total.calm && a.calm {
         match v {
             Value::Integer(x) => if total.defined {
+                let addend = x as i64;
+                let sum = total.sum + addend;
                 Total {
-                    sum: total.sum + x as i64,
+                    sum: sum,
                     defined: true,
                     calm: true, // whatever the sum so far
                 }

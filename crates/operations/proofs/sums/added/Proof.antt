@@ -69,11 +69,11 @@ module _ (t : Total) (a : Walked) where
 enum-known-v : tie.Need-enum-known-v
 enum-known-v c = search needs
 
-cast-t11 : tie.Need-cast-t11
-cast-t11 c = search (needs, widened)
+cast-addend : tie.Need-cast-addend
+cast-addend c = search (needs, widened)
 
-add-t12 : tie.Need-add-t12
-add-t12 c =
+add-sum : tie.Need-add-sum
+add-sum c =
     let s = c .before .before .before .before .before .before .before .before in
     let x = c .before .before .before .before .v .given .0 .0 in
     let f : SFits w32 x = search needs in
@@ -109,8 +109,8 @@ added-spec =
     tie.close
     (tie.spec
     enum-known-v
-    cast-t11
-    add-t12
+    cast-addend
+    add-sum
     enum-told
     enum-told-2
     returns
