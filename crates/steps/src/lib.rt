@@ -24,39 +24,50 @@ use layout::fields::y_at;
 use sections::Places;
 use table::MOST_RECORDS;
 
-// Whose steps a node of each kind takes over: 0 nobody's, 1 those of node x, 2 of node y, 3 of both, 4 of the body y for each value of slot x.
+// Whose steps a node takes over: nobody's, those of node x, of node y, of both, or of the body y for each value of slot x.
+const LEAF: u8 = 0;
+
+const OF_X: u8 = 1;
+
+const OF_Y: u8 = 2;
+
+const OF_BOTH: u8 = 3;
+
+const OF_RANGE: u8 = 4;
+
+// Whose steps a node of each kind takes over.
 const SHAPES: [u8; 31] = [
-    0,
-    0,
-    0,
-    0,
-    0,
-    0,
-    3,
-    3,
-    3,
-    3,
-    3,
-    1,
-    3,
-    3,
-    1,
-    2,
-    2,
-    4,
-    0,
-    0,
-    3,
-    3,
-    3,
-    3,
-    1,
-    3,
-    3,
-    3,
-    3,
-    4,
-    4,
+    LEAF, // 0: does not exist
+    LEAF, // 1: constant
+    LEAF, // 2: truth value
+    LEAF, // 3: variable
+    LEAF, // 4: Boolean variable
+    LEAF, // 5: slot
+    OF_BOTH, // 6: add
+    OF_BOTH, // 7: subtract
+    OF_BOTH, // 8: multiply
+    OF_BOTH, // 9: div
+    OF_BOTH, // 10: mod
+    OF_X, // 11: negate
+    OF_BOTH, // 12: min
+    OF_BOTH, // 13: max
+    OF_X, // 14: boolToInt
+    OF_Y, // 15: lookup
+    OF_Y, // 16: Boolean lookup
+    OF_RANGE, // 17: sum
+    LEAF, // 18: does not exist
+    LEAF, // 19: does not exist
+    OF_BOTH, // 20: and
+    OF_BOTH, // 21: or
+    OF_BOTH, // 22: implies
+    OF_BOTH, // 23: iff
+    OF_X, // 24: not
+    OF_BOTH, // 25: =
+    OF_BOTH, // 26: ≠
+    OF_BOTH, // 27: ≤
+    OF_BOTH, // 28: <
+    OF_RANGE, // 29: exists
+    OF_RANGE, // 30: forall
 ];
 
 // 2^32: more than every budget.
@@ -124,10 +135,10 @@ fn node_steps(s: &[u8], at: Places, shapes: &[u8; 31], costs: &[u64; MOST_RECORD
     let b = kept(costs, y);
     let kind = kind_at(s, p) as usize;
     match shapes[kind] {
-        0 => 1,
-        1 => capped(1 + a),
-        2 => capped(1 + b),
-        3 => capped(1 + (a + b)),
+        LEAF => 1,
+        OF_X => capped(1 + a),
+        OF_Y => capped(1 + b),
+        OF_BOTH => capped(1 + (a + b)),
         _ => capped(1 + slot_count(s, at, x) * b),
     }
 }
