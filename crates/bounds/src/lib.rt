@@ -35,6 +35,7 @@ use layout::fields::x_at;
 use layout::fields::y_at;
 use sections::Places;
 use table::MOST_RECORDS;
+use table::kind;
 
 pub mod ends;
 
@@ -175,20 +176,20 @@ fn node_ends(
     let a = operand(lows, highs, x);
     let b = operand(lows, highs, y);
     match kind_at(s, p) {
-        1 => only(x_at(s, p)),
-        3 => domain(s, at, x),
-        5 => slot_values(slot_ends(s, at, x)),
-        6 => plus(a, b),
-        7 => minus(a, b),
-        8 => times(a, b),
-        9 => quotients(a, b),
-        10 => remainders(a, b),
-        11 => negated(a),
-        12 => lesser(a, b),
-        13 => greater(a, b),
-        14 => Ends { low: 0, high: 1 },
-        15 => operand(hull_lows, hull_highs, x),
-        17 => summed(slot_ends(s, at, x), b),
+        kind::CONSTANT => only(x_at(s, p)),
+        kind::VARIABLE => domain(s, at, x),
+        kind::SLOT => slot_values(slot_ends(s, at, x)),
+        kind::ADD => plus(a, b),
+        kind::SUBTRACT => minus(a, b),
+        kind::MULTIPLY => times(a, b),
+        kind::DIV => quotients(a, b),
+        kind::MOD => remainders(a, b),
+        kind::NEGATE => negated(a),
+        kind::MIN => lesser(a, b),
+        kind::MAX => greater(a, b),
+        kind::BOOL_TO_INT => Ends { low: 0, high: 1 },
+        kind::LOOKUP => operand(hull_lows, hull_highs, x),
+        kind::SUM => summed(slot_ends(s, at, x), b),
         _ => Ends { low: 0, high: 0 },
     }
 }

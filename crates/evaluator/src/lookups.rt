@@ -28,6 +28,7 @@ use table::MOST_BYTES;
 use table::NodeNumber;
 use table::SlotNumber;
 use table::VariableNumber;
+use table::kind;
 
 pub fn variable(assignment: &[i32], v: VariableNumber) -> i32
     ensures { λ r. ⌜ r ≡ valueOf (now (assignment .entry)) (v .0) ⌝ }
@@ -154,12 +155,12 @@ pub fn leaf_at(
 {
     let r = places[NODES_FROM] + n.0;
     match kind_at(t, r) {
-        1 => Leaf::Is(limited(true, x_at(t, r) as i64)),
-        3 => Leaf::Is(limited(
+        kind::CONSTANT => Leaf::Is(limited(true, x_at(t, r) as i64)),
+        kind::VARIABLE => Leaf::Is(limited(
             true,
             variable(assignment, VariableNumber(named_x(t, r))) as i64,
         )),
-        5 => Leaf::Is(limited(true, slot(setting, SlotNumber(named_x(t, r))) as i64)),
+        kind::SLOT => Leaf::Is(limited(true, slot(setting, SlotNumber(named_x(t, r))) as i64)),
         _ => Leaf::Other,
     }
 }

@@ -16,6 +16,7 @@ use table::MOST_BYTES;
 use table::NodeNumber;
 use table::SlotNumber;
 use table::VariableNumber;
+use table::kind;
 
 pub enum IntegerNode {
     Constant(Value),
@@ -71,20 +72,20 @@ pub fn integer_node(t: &[u8; MOST_BYTES], places: &[u32; 69], n: NodeNumber) -> 
 {
     let r = places[NODES_FROM] + n.0;
     match kind_at(t, r) {
-        1 => IntegerNode::Constant(Value::Integer(x_at(t, r))),
-        3 => IntegerNode::Variable(VariableNumber(named_x(t, r))),
-        5 => IntegerNode::Slot(SlotNumber(named_x(t, r))),
-        6 => IntegerNode::Add(node_x(t, r), node_y(t, r)),
-        7 => IntegerNode::Subtract(node_x(t, r), node_y(t, r)),
-        8 => IntegerNode::Multiply(node_x(t, r), node_y(t, r)),
-        9 => IntegerNode::Divide(node_x(t, r), node_y(t, r)),
-        10 => IntegerNode::Modulo(node_x(t, r), node_y(t, r)),
-        11 => IntegerNode::Negate(node_x(t, r)),
-        12 => IntegerNode::Least(node_x(t, r), node_y(t, r)),
-        13 => IntegerNode::Greatest(node_x(t, r), node_y(t, r)),
-        14 => IntegerNode::BoolToInt(node_x(t, r)),
-        15 => IntegerNode::Lookup(ArrayNumber(named_x(t, r)), node_y(t, r)),
-        17 => IntegerNode::Sum(SlotNumber(named_x(t, r)), node_y(t, r)),
+        kind::CONSTANT => IntegerNode::Constant(Value::Integer(x_at(t, r))),
+        kind::VARIABLE => IntegerNode::Variable(VariableNumber(named_x(t, r))),
+        kind::SLOT => IntegerNode::Slot(SlotNumber(named_x(t, r))),
+        kind::ADD => IntegerNode::Add(node_x(t, r), node_y(t, r)),
+        kind::SUBTRACT => IntegerNode::Subtract(node_x(t, r), node_y(t, r)),
+        kind::MULTIPLY => IntegerNode::Multiply(node_x(t, r), node_y(t, r)),
+        kind::DIV => IntegerNode::Divide(node_x(t, r), node_y(t, r)),
+        kind::MOD => IntegerNode::Modulo(node_x(t, r), node_y(t, r)),
+        kind::NEGATE => IntegerNode::Negate(node_x(t, r)),
+        kind::MIN => IntegerNode::Least(node_x(t, r), node_y(t, r)),
+        kind::MAX => IntegerNode::Greatest(node_x(t, r), node_y(t, r)),
+        kind::BOOL_TO_INT => IntegerNode::BoolToInt(node_x(t, r)),
+        kind::LOOKUP => IntegerNode::Lookup(ArrayNumber(named_x(t, r)), node_y(t, r)),
+        kind::SUM => IntegerNode::Sum(SlotNumber(named_x(t, r)), node_y(t, r)),
         _ => IntegerNode::Constant(Value::Integer(0)),
     }
 }
@@ -95,20 +96,20 @@ pub fn truth_node(t: &[u8; MOST_BYTES], places: &[u32; 69], n: NodeNumber) -> Tr
 {
     let r = places[NODES_FROM] + n.0;
     match kind_at(t, r) {
-        2 => TruthNode::Constant(Value::Truth(x_at(t, r) == 1)),
-        4 => TruthNode::Variable(VariableNumber(named_x(t, r))),
-        16 => TruthNode::Lookup(ArrayNumber(named_x(t, r)), node_y(t, r)),
-        20 => TruthNode::And(node_x(t, r), node_y(t, r)),
-        21 => TruthNode::Or(node_x(t, r), node_y(t, r)),
-        22 => TruthNode::Implies(node_x(t, r), node_y(t, r)),
-        23 => TruthNode::Iff(node_x(t, r), node_y(t, r)),
-        24 => TruthNode::Not(node_x(t, r)),
-        25 => TruthNode::Equal(node_x(t, r), node_y(t, r)),
-        26 => TruthNode::Unequal(node_x(t, r), node_y(t, r)),
-        27 => TruthNode::AtMost(node_x(t, r), node_y(t, r)),
-        28 => TruthNode::Below(node_x(t, r), node_y(t, r)),
-        29 => TruthNode::Exists(SlotNumber(named_x(t, r)), node_y(t, r)),
-        30 => TruthNode::Forall(SlotNumber(named_x(t, r)), node_y(t, r)),
+        kind::TRUTH_VALUE => TruthNode::Constant(Value::Truth(x_at(t, r) == 1)),
+        kind::BOOLEAN_VARIABLE => TruthNode::Variable(VariableNumber(named_x(t, r))),
+        kind::BOOLEAN_LOOKUP => TruthNode::Lookup(ArrayNumber(named_x(t, r)), node_y(t, r)),
+        kind::AND => TruthNode::And(node_x(t, r), node_y(t, r)),
+        kind::OR => TruthNode::Or(node_x(t, r), node_y(t, r)),
+        kind::IMPLIES => TruthNode::Implies(node_x(t, r), node_y(t, r)),
+        kind::IFF => TruthNode::Iff(node_x(t, r), node_y(t, r)),
+        kind::NOT => TruthNode::Not(node_x(t, r)),
+        kind::EQUAL => TruthNode::Equal(node_x(t, r), node_y(t, r)),
+        kind::UNEQUAL => TruthNode::Unequal(node_x(t, r), node_y(t, r)),
+        kind::AT_MOST => TruthNode::AtMost(node_x(t, r), node_y(t, r)),
+        kind::BELOW => TruthNode::Below(node_x(t, r), node_y(t, r)),
+        kind::EXISTS => TruthNode::Exists(SlotNumber(named_x(t, r)), node_y(t, r)),
+        kind::FORALL => TruthNode::Forall(SlotNumber(named_x(t, r)), node_y(t, r)),
         _ => TruthNode::Constant(Value::Truth(false)),
     }
 }

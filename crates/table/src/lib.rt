@@ -7,6 +7,8 @@ ghost use Rattle.table.specs.Records.{recordSize, recordCount, wordAt, k
 ghost use Rattle.table.specs.Marks.{markOf};
 ghost use Rattle.table.specs.Words.{lift};
 
+pub mod kind;
+
 // "Variables, slots, arrays and nodes are each numbered from 0".
 pub struct NodeNumber(pub u32);
 

@@ -35,6 +35,7 @@ pub fn all(calls: &dyn Calls) -> Vec<Input> {
     }
     let walks = [
         ("nested ranges", nested()),
+        ("quotients below zero", quotients()),
         ("wide and flat", flat()),
         ("chain of nots", limits::chain_of_nots(DEPTH)),
         ("chain of adds", limits::chain_of_adds(DEPTH)),
@@ -197,6 +198,21 @@ fn nested() -> Table {
         .node(Node::exists(1, 9))
         .node(Node::forall(0, 10))
         .constraint(11)
+}
+
+/// Sums of quotients whose dividends are below zero.
+fn quotients() -> Table {
+    Table::new()
+        .slot(-1_000, -1)
+        .slot(1, 64)
+        .node(Node::slot(0))
+        .node(Node::slot(1))
+        .node(Node::div(0, 1))
+        .node(Node::sum(1, 2))
+        .node(Node::sum(0, 3))
+        .node(Node::constant(0))
+        .node(Node::at_most(4, 5))
+        .constraint(6)
 }
 
 /// Many small constraints without ranges.
