@@ -1,7 +1,7 @@
 -- Laws of cells and of the rows of a rule.
 -- Assumes nothing.
 use mathlib.Core.Path.{_≡_, refl, sym, ap, _∙_}
-use Prim.Native.Nat.{ℕ, _+_, _-_, _*_, _≤_, _<_}
+use Prim.Native.Nat.{ℕ, _+_, _-_, _*_, _/_, _%_, _≤_, _<_}
 use native.Mathlib.Omega.{arith}
 use native.Mathlib.Numerals.{add-one}
 use mathlib.Core.Bool.{cond}
@@ -13,7 +13,7 @@ use borrow.Author.Tests.{lt-ltb, le-ltb}
 use Rattle.table.specs.Records.{ND, recordSize, firstLetter, secondLetter, wordBytes}
 use Rattle.answers.specs.Sections.{listed}
 use Rattle.answers.proofs.Listed.{length-listed}
-use Rattle.translator.specs.Cells.{Cell, recordOf, cellBytes, cellsBytes, words, place, resolve, rowAt, rowsFrom}
+use Rattle.translator.specs.Cells.{Cell, recordOf, cellBytes, cellsBytes, words, place, resolve, unpacked, rowAt, rowsFrom}
 use Rattle.numbers.proofs.Lists.{sets-++}
 
 -- ---- places
@@ -65,8 +65,8 @@ module _ (env rows : List ℕ) (base own from : ℕ) where
   unfolding rowsFrom
   length-written j = length-cellsBytes (map (resolve env base own) (rowsFrom rows from j)) ∙ ap (λ k. recordSize * k) (length-map (rowsFrom rows from j) (resolve env base own) ∙ length-listed j (λ i. rowAt rows (from + i)))
 
-  pub rows-more : (o : List ℕ) {out new : List ℕ} (at j : ℕ) {kind x y : ℕ} → out ≡ sets o at (written j) → new ≡ sets out (at + 12 * j) (recordOf 78 68 kind x y) → kind ≡ cond (eqb (getD rows (3 * (from + j)) 0) 0) own (getD rows (3 * (from + j)) 0) → x ≡ place env base (getD rows (3 * (from + j) + 1) 0) → y ≡ place env base (getD rows (3 * (from + j) + 2) 0) → new ≡ sets o at (written (j + 1))
-  unfolding recordSize cellBytes resolve rowAt firstLetter secondLetter
+  pub rows-more : (o : List ℕ) {out new : List ℕ} (at j : ℕ) {kind x y : ℕ} → out ≡ sets o at (written j) → new ≡ sets out (at + 12 * j) (recordOf 78 68 kind x y) → kind ≡ cond (eqb (getD rows (from + j) 0 % 256) 0) own (getD rows (from + j) 0 % 256) → x ≡ place env base (getD rows (from + j) 0 / 256 % 256) → y ≡ place env base (getD rows (from + j) 0 / 65_536 % 256) → new ≡ sets o at (written (j + 1))
+  unfolding recordSize cellBytes resolve rowAt unpacked firstLetter secondLetter
   rows-more o {out} {new} at j {kind} {x} {y} e f k p q =
       f ∙ rw (e, k, p, q) (ap (λ i. sets (sets o at (written j)) (at + i) (cellBytes (resolve env base own (rowAt rows (from + j))))) (sym (length-written j))
       ∙ sym (sets-++ o at (written j) (cellBytes (resolve env base own (rowAt rows (from + j))))) ∙ ap (sets o at) (sym (written-more j)))

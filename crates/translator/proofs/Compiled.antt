@@ -18,8 +18,8 @@ use Rattle.rules.specs.Writing.{leaf, unary, binary, writeI, writeB, inTurn, wr
 use Rattle.table.specs.Records.{bitsOf}
 use Rattle.table.specs.Kinds.{Field, unused, anyNumber, truthValue, variableNumber, slotNumber, arrayNumber, nodeNumber, kinds, kindOf, arithmeticKind, divisionKind, connectiveKind, comparisonKind, quantifierKind}
 use Rattle.answers.specs.Sections.{listed}
-use Rattle.translator.specs.Cells.{Cell, cell, words, fields, rowAt, rowsFrom}
-use Rattle.translator.specs.Plans.{ruleRows, rulePlans, readingNumber, planIndex, planAt, planRows}
+use Rattle.translator.specs.Cells.{Cell, cell, words, fields, unpacked, rowAt, rowsFrom}
+use Rattle.translator.specs.Plans.{ruleRows, plansWith, rulePlans, planOf, readingNumber, planIndex, planAt, planRows}
 
 -- the row of a record with this kind
 unfoldable pub rowFor : ℕ → ℤ → ℤ → Row
@@ -53,15 +53,15 @@ owned k c = cell (cond (eqb (c .kind) 0) k (c .kind)) (c .x) (c .y)
 -- kind k's plan under ρ is its rule
 pub record Right (ρ : Reading) (k : ℕ) : Type 0 where
   pub rows : map fields (writeRule (symbolic ρ k) words .rows) ≡ map (owned k) (planRows ρ k)
-  pub first : writeRule (symbolic ρ k) words .first ≡ planAt ρ k 2
-  pub second : writeRule (symbolic ρ k) words .second ≡ planAt ρ k 3
+  pub first : writeRule (symbolic ρ k) words .first ≡ planAt ρ k .first
+  pub second : writeRule (symbolic ρ k) words .second ≡ planAt ρ k .second
 
 -- A Boolean constant's number is no formula: its rows are held to its rule by themselves.
 abbrev pub Compiled : Reading → ℕ → Type 0
 Compiled ρ k = (k ≡ 2 → ⊥) → Right ρ k
 
 pub compiled : (ρ : Reading) → Below 31 (Compiled ρ)
-unfolding fields symbolic references referenceX referenceOf rowFor rule guard index last divideV divideD inside clamped refuted behind settled connectP connectN quantifyP quantifyN arrayAt noArray isOne number writeRule writeI writeB inTurn leaf unary binary bitsOf kindOf kinds arithmeticKind divisionKind connectiveKind comparisonKind quantifierKind planRows planAt planIndex readingNumber ruleRows rulePlans rowsFrom rowAt listed
+unfolding fields symbolic references referenceX referenceOf rowFor rule guard index last divideV divideD inside clamped refuted behind settled connectP connectN quantifyP quantifyN arrayAt noArray isOne number writeRule writeI writeB inTurn leaf unary binary bitsOf kindOf kinds arithmeticKind divisionKind connectiveKind comparisonKind quantifierKind planRows planAt planIndex readingNumber ruleRows rulePlans plansWith planOf rowsFrom rowAt unpacked listed
 compiled strict = ((λ h. record { rows = refl; first = refl; second = refl }), ((λ h. record { rows = refl; first = refl; second = refl }), ((λ h. absurd (h refl)), ((λ h. record { rows = refl; first = refl; second = refl }), ((λ h. record { rows = refl; first = refl; second = refl }), ((λ h. record { rows = refl; first = refl; second = refl }), ((λ h. record { rows = refl; first = refl; second = refl }), ((λ h. record { rows = refl; first = refl; second = refl }), ((λ h. record { rows = refl; first = refl; second = refl }), ((λ h. record { rows = refl; first = refl; second = refl }), ((λ h. record { rows = refl; first = refl; second = refl }), ((λ h. record { rows = refl; first = refl; second = refl }), ((λ h. record { rows = refl; first = refl; second = refl }), ((λ h. record { rows = refl; first = refl; second = refl }), ((λ h. record { rows = refl; first = refl; second = refl }), ((λ h. record { rows = refl; first = refl; second = refl }), ((λ h. record { rows = refl; first = refl; second = refl }), ((λ h. record { rows = refl; first = refl; second = refl }), ((λ h. record { rows = refl; first = refl; second = refl }), ((λ h. record { rows = refl; first = refl; second = refl }), ((λ h. record { rows = refl; first = refl; second = refl }), ((λ h. record { rows = refl; first = refl; second = refl }), ((λ h. record { rows = refl; first = refl; second = refl }), ((λ h. record { rows = refl; first = refl; second = refl }), ((λ h. record { rows = refl; first = refl; second = refl }), ((λ h. record { rows = refl; first = refl; second = refl }), ((λ h. record { rows = refl; first = refl; second = refl }), ((λ h. record { rows = refl; first = refl; second = refl }), ((λ h. record { rows = refl; first = refl; second = refl }), ((λ h. record { rows = refl; first = refl; second = refl }), ((λ h. record { rows = refl; first = refl; second = refl }), tt)))))))))))))))))))))))))))))))
 compiled kleene = ((λ h. record { rows = refl; first = refl; second = refl }), ((λ h. record { rows = refl; first = refl; second = refl }), ((λ h. absurd (h refl)), ((λ h. record { rows = refl; first = refl; second = refl }), ((λ h. record { rows = refl; first = refl; second = refl }), ((λ h. record { rows = refl; first = refl; second = refl }), ((λ h. record { rows = refl; first = refl; second = refl }), ((λ h. record { rows = refl; first = refl; second = refl }), ((λ h. record { rows = refl; first = refl; second = refl }), ((λ h. record { rows = refl; first = refl; second = refl }), ((λ h. record { rows = refl; first = refl; second = refl }), ((λ h. record { rows = refl; first = refl; second = refl }), ((λ h. record { rows = refl; first = refl; second = refl }), ((λ h. record { rows = refl; first = refl; second = refl }), ((λ h. record { rows = refl; first = refl; second = refl }), ((λ h. record { rows = refl; first = refl; second = refl }), ((λ h. record { rows = refl; first = refl; second = refl }), ((λ h. record { rows = refl; first = refl; second = refl }), ((λ h. record { rows = refl; first = refl; second = refl }), ((λ h. record { rows = refl; first = refl; second = refl }), ((λ h. record { rows = refl; first = refl; second = refl }), ((λ h. record { rows = refl; first = refl; second = refl }), ((λ h. record { rows = refl; first = refl; second = refl }), ((λ h. record { rows = refl; first = refl; second = refl }), ((λ h. record { rows = refl; first = refl; second = refl }), ((λ h. record { rows = refl; first = refl; second = refl }), ((λ h. record { rows = refl; first = refl; second = refl }), ((λ h. record { rows = refl; first = refl; second = refl }), ((λ h. record { rows = refl; first = refl; second = refl }), ((λ h. record { rows = refl; first = refl; second = refl }), ((λ h. record { rows = refl; first = refl; second = refl }), tt)))))))))))))))))))))))))))))))
 compiled relational = ((λ h. record { rows = refl; first = refl; second = refl }), ((λ h. record { rows = refl; first = refl; second = refl }), ((λ h. absurd (h refl)), ((λ h. record { rows = refl; first = refl; second = refl }), ((λ h. record { rows = refl; first = refl; second = refl }), ((λ h. record { rows = refl; first = refl; second = refl }), ((λ h. record { rows = refl; first = refl; second = refl }), ((λ h. record { rows = refl; first = refl; second = refl }), ((λ h. record { rows = refl; first = refl; second = refl }), ((λ h. record { rows = refl; first = refl; second = refl }), ((λ h. record { rows = refl; first = refl; second = refl }), ((λ h. record { rows = refl; first = refl; second = refl }), ((λ h. record { rows = refl; first = refl; second = refl }), ((λ h. record { rows = refl; first = refl; second = refl }), ((λ h. record { rows = refl; first = refl; second = refl }), ((λ h. record { rows = refl; first = refl; second = refl }), ((λ h. record { rows = refl; first = refl; second = refl }), ((λ h. record { rows = refl; first = refl; second = refl }), ((λ h. record { rows = refl; first = refl; second = refl }), ((λ h. record { rows = refl; first = refl; second = refl }), ((λ h. record { rows = refl; first = refl; second = refl }), ((λ h. record { rows = refl; first = refl; second = refl }), ((λ h. record { rows = refl; first = refl; second = refl }), ((λ h. record { rows = refl; first = refl; second = refl }), ((λ h. record { rows = refl; first = refl; second = refl }), ((λ h. record { rows = refl; first = refl; second = refl }), ((λ h. record { rows = refl; first = refl; second = refl }), ((λ h. record { rows = refl; first = refl; second = refl }), ((λ h. record { rows = refl; first = refl; second = refl }), ((λ h. record { rows = refl; first = refl; second = refl }), ((λ h. record { rows = refl; first = refl; second = refl }), tt)))))))))))))))))))))))))))))))

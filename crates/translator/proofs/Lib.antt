@@ -1,7 +1,7 @@
 pub mod Cells
 pub mod Compiled
-pub mod Indexes
 pub mod Moved
+pub mod Planned
 pub mod Ruled
 pub mod States
 pub mod Stores

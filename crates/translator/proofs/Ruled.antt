@@ -19,8 +19,8 @@ use Rattle.rules.specs.Writing.{writeRule, writeB, leaf, unary, inTurn}
 use Rattle.table.specs.Records.{bitsOf}
 use Rattle.table.specs.Kinds.{kinds, kindOf}
 use Rattle.answers.specs.Sections.{listed}
-use Rattle.translator.specs.Cells.{place, fields, resolve, rowAt, rowsFrom}
-use Rattle.translator.specs.Plans.{ruleRows, rulePlans, readingNumber, planIndex, planAt, planRows}
+use Rattle.translator.specs.Cells.{place, fields, resolve, unpacked, rowAt, rowsFrom}
+use Rattle.translator.specs.Plans.{ruleRows, plansWith, rulePlans, planOf, readingNumber, planIndex, planAt, planRows}
 use Rattle.translator.specs.Words.{literal, looksUp, nodeNumbers, nodeWords}
 use Rattle.translator.proofs.Moved.{moved, overI, overB, Fit, Over, moves-rule}
 use Rattle.translator.proofs.Compiled.{rowFor, references, referenceOf, referenceX, symbolic, owned, Compiled, compiled}
@@ -66,8 +66,8 @@ module _ (ρ : Reading) (Γ : Declarations) (firsts seconds : List ℕ) (x y : �
   -- The rows of the plan with the words in place, and the places of both companions.
   pub record WritesPlan (k : ℕ) : Type 0 where
     pub rows : map fields (writeRule (ruleOf ρ Γ firsts seconds x y n k) n .rows) ≡ map (resolve (nodeWords Γ firsts seconds k x y) n k) (planRows ρ k)
-    pub first : writeRule (ruleOf ρ Γ firsts seconds x y n k) n .first ≡ place (nodeWords Γ firsts seconds k x y) n (planAt ρ k 2)
-    pub second : writeRule (ruleOf ρ Γ firsts seconds x y n k) n .second ≡ place (nodeWords Γ firsts seconds k x y) n (planAt ρ k 3)
+    pub first : writeRule (ruleOf ρ Γ firsts seconds x y n k) n .first ≡ place (nodeWords Γ firsts seconds k x y) n (planAt ρ k .first)
+    pub second : writeRule (ruleOf ρ Γ firsts seconds x y n k) n .second ≡ place (nodeWords Γ firsts seconds k x y) n (planAt ρ k .second)
 
   formula-writes : (k : ℕ) → k < 31 → (k ≡ 2 → ⊥) → WritesPlan k
   unfolding resolve
@@ -88,7 +88,7 @@ module _ (Γ : Declarations) (firsts seconds : List ℕ) (x y : ℤ) (n : ℕ) w
   next = omega arith
 
   constant-writes : (ρ : Reading) → WritesPlan ρ Γ firsts seconds x y n 2
-  unfolding rule rowFor kindOf kinds writeRule writeB leaf unary inTurn fields bitsOf resolve place nodeWords nodeNumbers literal looksUp planRows planAt planIndex readingNumber ruleRows rulePlans rowsFrom rowAt listed
+  unfolding rule rowFor kindOf kinds writeRule writeB leaf unary inTurn fields bitsOf resolve place nodeWords nodeNumbers literal looksUp planRows planAt planIndex readingNumber ruleRows rulePlans plansWith planOf rowsFrom rowAt unpacked listed
   constant-writes strict = record { rows = rw (← next); first = next; second = omega arith }
   constant-writes kleene = record { rows = rw (← next); first = next; second = omega arith }
   constant-writes relational = record { rows = rw (← next); first = next; second = omega arith }

@@ -48,7 +48,7 @@ module _ (bs : List ℕ) (ρ : Reading) where
   node-writes n {p} e h = writes-plan ρ (declarations bs) (state n .firsts) (state n .seconds) (xAt bs p) (yAt bs p) (length (state n .rows)) (kindAt bs p) h
 
   -- One more node adds as many rows as its plan has.
-  pub length-state-suc : (n : ℕ) {p : ℕ} → p ≡ nodesAt bs + n → kindAt bs p < 31 → length (state (n + 1) .rows) ≡ length (state n .rows) + planAt ρ (kindAt bs p) 1
+  pub length-state-suc : (n : ℕ) {p : ℕ} → p ≡ nodesAt bs + n → kindAt bs p < 31 → length (state (n + 1) .rows) ≡ length (state n .rows) + planAt ρ (kindAt bs p) .count
   unfolding step append ruleAfter rowOf rowFor planRows rowsFrom
   length-state-suc n {p} e h =
       ap (λ (t : Translated). length (t .rows)) (state-suc n)
@@ -57,7 +57,7 @@ module _ (bs : List ℕ) (ρ : Reading) where
       (sym (length-map (writeRule (ruleAfter ρ (declarations bs) (state n) (rowOf bs p)) (length (state n .rows)) .rows) fields)
       ∙ ap length (node-writes n e h .rows)
       ∙ length-map (planRows ρ (kindAt bs p)) (resolve (nodeWords (declarations bs) (state n .firsts) (state n .seconds) (kindAt bs p) (xAt bs p) (yAt bs p)) (length (state n .rows)) (kindAt bs p))
-      ∙ length-listed (planAt ρ (kindAt bs p) 1) (λ j. rowAt ruleRows (planAt ρ (kindAt bs p) 0 + j))))
+      ∙ length-listed (planAt ρ (kindAt bs p) .count) (λ j. rowAt ruleRows (planAt ρ (kindAt bs p) .from + j))))
 
   pub new-count : (n : ℕ) → n ≡ nodeCount bs → nodesAt bs + constraintCount bs + length (state n .rows) ≡ newCount bs ρ
   unfolding newCount translated rows constraints state

@@ -1,6 +1,6 @@
 -- A node record of the new table as its kind and two words, and a rule's row, whose words are references.
 -- Assumes nothing.
-use Prim.Native.Nat.{ℕ, _+_, _-_, _*_}
+use Prim.Native.Nat.{ℕ, _+_, _-_, _*_, _/_, _%_}
 use mathlib.Core.Bool.{cond}
 use mathlib.Core.List.{List, [], _∷_, _++_}
 use lib.Dec.{eqb, ltb}
@@ -46,9 +46,17 @@ place env n r = cond (ltb r words) (getD env r 0) (n + (r - words))
 unfoldable pub resolve : List ℕ → ℕ → ℕ → Cell → Cell
 resolve env n own c = cell (cond (eqb (c .kind) 0) own (c .kind)) (place env n (c .x)) (place env n (c .y))
 
--- row r of a list of rows, three numbers to a row
+-- a row as one number: its kind, and the references of its x and y
+abbrev pub row : ℕ → ℕ → ℕ → ℕ
+row k x y = k + 256 * x + 65_536 * y
+
+-- a row taken apart
+unfoldable pub unpacked : ℕ → Cell
+unpacked w = cell (w % 256) (w / 256 % 256) (w / 65_536 % 256)
+
+-- row r of a list of rows
 unfoldable pub rowAt : List ℕ → ℕ → Cell
-rowAt rows r = cell (getD rows (3 * r) 0) (getD rows (3 * r + 1) 0) (getD rows (3 * r + 2) 0)
+rowAt rows r = unpacked (getD rows r 0)
 
 -- `count` rows from row `from` on
 unfoldable pub rowsFrom : List ℕ → ℕ → ℕ → List Cell

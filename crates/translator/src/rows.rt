@@ -43,7 +43,7 @@ pub fn word_of(env: &[u32; 16], base: u32, r: u8) -> u32
 pub fn put_rows(
     out: &mut [u8],
     at: usize,
-    rows: &[u8],
+    rows: &[u32],
     from: usize,
     count: usize,
     env: &[u32; 16],
@@ -51,16 +51,16 @@ pub fn put_rows(
     own: u8,
 )
     requires { ⌜ base + 256 < 0x1_0000_0000 ⌝ }
-    requires { ⌜ 3 * (from + count) ≤ length (now rows) ⌝ }
+    requires { ⌜ from + count ≤ length (now rows) ⌝ }
     requires { ⌜ at + recordSize * count ≤ length (now out) ⌝ }
     ensures { λ r. ⌜ now (out .exit) ≡ sets (now (out .entry)) at (cellsBytes (map (resolve (now (env .entry)) base own) (rowsFrom (now (rows .entry)) from count))) ⌝ }
 {
     let mut j = 0;
     while j < count {
-        let r = 3 * (from + j);
-        let kind = kind_of(rows[r], own);
-        let x = word_of(env, base, rows[r + 1]);
-        let y = word_of(env, base, rows[r + 2]);
+        let row = rows[from + j];
+        let kind = kind_of((row % 256) as u8, own);
+        let x = word_of(env, base, (row / 256 % 256) as u8);
+        let y = word_of(env, base, (row / 65_536 % 256) as u8);
         put_record(out, at + RECORD_SIZE * j, b'N', b'D', kind, x, y);
         j += 1;
     }

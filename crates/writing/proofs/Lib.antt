@@ -4,7 +4,7 @@ pub mod ConstraintRecords
 pub mod Known
 pub mod NodeRecords
 pub mod NodeWords
-pub mod PlanNumbers
+pub mod PlanRows
 pub mod Positions
 pub mod Standing
 pub mod Turns

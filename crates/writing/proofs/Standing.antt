@@ -28,8 +28,8 @@ module _ (bs : List ℕ) (ρ : Reading) where
   -- What one more node adds.
   record Adds (n k : ℕ) (words : List ℕ) : Type 0 where
     rows : map fields (state bs ρ (n + 1) .rows) ≡ map fields (state bs ρ n .rows) ++ map (resolve words (length (state bs ρ n .rows)) k) (planRows ρ k)
-    firsts : state bs ρ (n + 1) .firsts ≡ state bs ρ n .firsts ++ (place words (length (state bs ρ n .rows)) (planAt ρ k 2) ∷ [])
-    seconds : state bs ρ (n + 1) .seconds ≡ state bs ρ n .seconds ++ (place words (length (state bs ρ n .rows)) (planAt ρ k 3) ∷ [])
+    firsts : state bs ρ (n + 1) .firsts ≡ state bs ρ n .firsts ++ (place words (length (state bs ρ n .rows)) (planAt ρ k .first) ∷ [])
+    seconds : state bs ρ (n + 1) .seconds ≡ state bs ρ n .seconds ++ (place words (length (state bs ρ n .rows)) (planAt ρ k .second) ∷ [])
 
   -- It adds its plan's rows, with its words in place.
   node-adds : (n : ℕ) {p : ℕ} → p ≡ nodesAt bs + n → kindAt bs p < 31 → Adds n (kindAt bs p) (nodeWords (declarations bs) (state bs ρ n .firsts) (state bs ρ n .seconds) (kindAt bs p) (xAt bs p) (yAt bs p))
@@ -52,7 +52,7 @@ module _ (bs : List ℕ) (ρ : Reading) where
       rw (z, state-suc bs ρ (n + d), length-append) (omega (arith, rows-grow n d))
 
   -- A node's rows end within the new table, before the constraints.
-  pub node-fits : (n : ℕ) {p : ℕ} → p ≡ nodesAt bs + n → kindAt bs p < 31 → n < nodeCount bs → nodesAt bs + constraintCount bs + (length (state bs ρ n .rows) + planAt ρ (kindAt bs p) 1) ≤ newCount bs ρ
+  pub node-fits : (n : ℕ) {p : ℕ} → p ≡ nodesAt bs + n → kindAt bs p < 31 → n < nodeCount bs → nodesAt bs + constraintCount bs + (length (state bs ρ n .rows) + planAt ρ (kindAt bs p) .count) ≤ newCount bs ρ
   node-fits n {p} e h l =
       let z : n + 1 + (nodeCount bs - (n + 1)) ≡ nodeCount bs = omega arith in
       let g : length (state bs ρ (n + 1) .rows) ≤ length (state bs ρ (nodeCount bs) .rows) = rw z at (rows-grow (n + 1) (nodeCount bs - (n + 1))) in
@@ -91,23 +91,23 @@ module _ (bs : List ℕ) (ρ : Reading) where
     same-words k p = rw (w .firsts-held .held (natAbs (xAt bs p)), w .seconds-held .held (natAbs (xAt bs p)), w .firsts-held .held (natAbs (yAt bs p)), w .seconds-held .held (natAbs (yAt bs p)))
 
     -- one node more at each turn.
-    pub standing-more : {p kind at from count a b next′ : ℕ} {words new : List ℕ} → p ≡ nodesAt bs + n → kind ≡ kindAt bs p → kindAt bs p < 31 → n < 5_000
+    pub standing-more : {p kind at from count a b next′ : ℕ} {words rows new : List ℕ} → p ≡ nodesAt bs + n → kind ≡ kindAt bs p → kindAt bs p < 31 → n < 5_000
         → words ≡ nodeWords (declarations bs) firsts seconds (kindAt bs p) (xAt bs p) (yAt bs p)
-        → from ≡ planAt ρ (kindAt bs p) 0 → count ≡ planAt ρ (kindAt bs p) 1 → at ≡ recordSize * (nodesAt bs + next)
-        → new ≡ sets out at (cellsBytes (map (resolve words next kind) (rowsFrom ruleRows from count)))
-        → a ≡ place words next (planAt ρ (kindAt bs p) 2) → b ≡ place words next (planAt ρ (kindAt bs p) 3) → next′ ≡ next + count
+        → from ≡ planAt ρ (kindAt bs p) .from → count ≡ planAt ρ (kindAt bs p) .count → at ≡ recordSize * (nodesAt bs + next)
+        → rows ≡ ruleRows → new ≡ sets out at (cellsBytes (map (resolve words next kind) (rowsFrom rows from count)))
+        → a ≡ place words next (planAt ρ (kindAt bs p) .first) → b ≡ place words next (planAt ρ (kindAt bs p) .second) → next′ ≡ next + count
         → Standing o new (set firsts n a) (set seconds n b) next′ (n + 1)
     unfolding planRows recordSize
-    standing-more {p} {kind} {at} {from} {count} {a} {b} {next′} {words} {new} e ek h few ew ef ec ea en first second more =
+    standing-more {p} {kind} {at} {from} {count} {a} {b} {next′} {words} {rows} {new} e ek h few ew ef ec ea er en first second more =
         let env = nodeWords (declarations bs) (state bs ρ n .firsts) (state bs ρ n .seconds) (kindAt bs p) (xAt bs p) (yAt bs p) in
         let s : words ≡ env = ew ∙ same-words (kindAt bs p) p in
         let adds = node-adds n e h in
         record {
-          written = en ∙ rw (w .written, newNodes-cells bs ρ (state bs ρ n .rows), s, w .next-is, ek, ef, ec) (stored o (recordSize * nodesAt bs) (map fields (state bs ρ n .rows)) (map (resolve env (length (state bs ρ n .rows)) (kindAt bs p)) (planRows ρ (kindAt bs p))) (omega (arith, w .next-is, length-map (state bs ρ n .rows) fields)) ∙ ap (λ l. sets o (recordSize * nodesAt bs) (cellsBytes l)) (sym (adds .rows)) ∙ ap (sets o (recordSize * nodesAt bs)) (sym (newNodes-cells bs ρ (state bs ρ (n + 1) .rows))));
-          sized = ap length en ∙ length-sets out at (cellsBytes (map (resolve words next kind) (rowsFrom ruleRows from count))) ∙ w .sized;
+          written = en ∙ rw (w .written, newNodes-cells bs ρ (state bs ρ n .rows), s, w .next-is, ek, er, ef, ec) (stored o (recordSize * nodesAt bs) (map fields (state bs ρ n .rows)) (map (resolve env (length (state bs ρ n .rows)) (kindAt bs p)) (planRows ρ (kindAt bs p))) (omega (arith, w .next-is, length-map (state bs ρ n .rows) fields)) ∙ ap (λ l. sets o (recordSize * nodesAt bs) (cellsBytes l)) (sym (adds .rows)) ∙ ap (sets o (recordSize * nodesAt bs)) (sym (newNodes-cells bs ρ (state bs ρ (n + 1) .rows))));
+          sized = ap length en ∙ length-sets out at (cellsBytes (map (resolve words next kind) (rowsFrom rows from count))) ∙ w .sized;
           next-is = more ∙ rw (w .next-is, ec) (sym (length-state-suc bs ρ n e h));
-          firsts-held = rw (adds .firsts, first, s, w .next-is) (one-position-more (w .firsts-held) few (place env (length (state bs ρ n .rows)) (planAt ρ (kindAt bs p) 2)));
-          seconds-held = rw (adds .seconds, second, s, w .next-is) (one-position-more (w .seconds-held) few (place env (length (state bs ρ n .rows)) (planAt ρ (kindAt bs p) 3)));
+          firsts-held = rw (adds .firsts, first, s, w .next-is) (one-position-more (w .firsts-held) few (place env (length (state bs ρ n .rows)) (planAt ρ (kindAt bs p) .first)));
+          seconds-held = rw (adds .seconds, second, s, w .next-is) (one-position-more (w .seconds-held) few (place env (length (state bs ρ n .rows)) (planAt ρ (kindAt bs p) .second)));
         }
 
     -- Behind the last node come the constraints.

@@ -29,8 +29,8 @@ pub record Turn (bs : List ℕ) (ρ : Reading) (room nodes next n : ℕ) : Type 
   pub at-node : nodes + n ≡ nodesAt bs + n
   pub few : nodes + n < 5_000
   pub known : KnownNode bs (nodes + n)
-  pub fits : 12 * (nodes + next) + recordSize * planAt ρ (kindAt bs (nodes + n)) 1 ≤ room
-  pub small : 12 * (nodes + (next + planAt ρ (kindAt bs (nodes + n)) 1)) ≤ 60_000
+  pub fits : 12 * (nodes + next) + recordSize * planAt ρ (kindAt bs (nodes + n)) .count ≤ room
+  pub small : 12 * (nodes + (next + planAt ρ (kindAt bs (nodes + n)) .count)) ≤ 60_000
 
 module _ (bs : List ℕ) (ρ : Reading) {at : Places} {room : ℕ} (e : checkFault bs ≡ none) (a : at ≡ placesOf bs) (r : recordSize * newCount bs ρ ≤ room) (m : recordSize * newCount bs ρ ≤ mostBytes) {o out firsts seconds : List ℕ} {next n : ℕ} (w : Standing bs ρ o out firsts seconds next n) where
   -- A turn for each node.

@@ -2,7 +2,7 @@
 ghost use mathlib.Core.Path.{_≡_};
 ghost use mathlib.Core.List.{_++_};
 ghost use mathlib.Core.Option.{none};
-ghost use Prim.Native.Nat.{_*_, _≤_, _<_};
+ghost use Prim.Native.Nat.{_*_, _≤_};
 ghost use lib.ListN.{length};
 ghost use lib.Seq.{sets};
 ghost use Rattle.numbers.specs.Limits.{mostBytes};
@@ -12,7 +12,6 @@ ghost use Rattle.answers.specs.Check.{checkFault};
 ghost use Rattle.answers.specs.Answers.{translated, newNodes, newConstraints, newCount};
 ghost use Rattle.sections.specs.Places.{placesOf};
 ghost use Rattle.reading.specs.Readings.{meant};
-ghost use Rattle.translator.specs.Plans.{readingNumber};
 use crate::constraints::put_constraints;
 use crate::words::node_words;
 use kinds::x_codes;
@@ -22,40 +21,15 @@ use reading::Reading;
 use sections::Places;
 use table::MOST_RECORDS;
 use table::RECORD_SIZE;
-use translator::KLEENE_PLANS;
-use translator::PLAN_SIZE;
-use translator::RELATIONAL_PLANS;
+use translator::plans::first_plan;
+use translator::plans::plan_at;
+use translator::plans::plans;
 use translator::rows::put_rows;
 use translator::rows::word_of;
-use translator::tables::PLANS;
-use translator::tables::ROWS;
+use translator::tables::rows;
 
 mod constraints;
 mod words;
-
-// Where the plans of a reading begin.
-fn first_plan(reading: Reading) -> usize
-    ensures { λ r. ⌜ r ≡ 124 * readingNumber (meant reading) ⌝ }
-    ensures { λ r. ⌜ r < 249 ⌝ }
-{
-    match reading {
-        Reading::Strict => 0,
-        Reading::Kleene => KLEENE_PLANS,
-        Reading::Relational => RELATIONAL_PLANS,
-    }
-}
-
-fn counted(b: u8) -> usize
-    ensures { λ r. ⌜ r ≡ b ⌝ }
-{
-    b as usize
-}
-
-fn wide(b: u8) -> u32
-    ensures { λ r. ⌜ r ≡ b ⌝ }
-{
-    b as u32
-}
 
 // Writes the new nodes and constraints behind the declarations of the new table.
 pub fn put_nodes_and_constraints(s: &[u8], at: Places, reading: Reading, out: &mut [u8])
@@ -65,11 +39,11 @@ pub fn put_nodes_and_constraints(s: &[u8], at: Places, reading: Reading, out: &m
     requires { ⌜ recordSize * newCount (now s) (meant reading) ≤ mostBytes ⌝ }
     ensures { λ r. ⌜ now (out .exit) ≡ sets (now (out .entry)) (recordSize * nodesAt (now (s .entry))) (newNodes (now (s .entry)) (meant reading) (translated (now (s .entry)) (meant reading) .rows) ++ newConstraints (now (s .entry)) (meant reading) (constraints (now (s .entry)))) ⌝ }
 {
-    let plans = PLANS;
-    let rows = ROWS;
+    let plans = plans();
+    let rows = rows();
     let codes = x_codes();
     let arrays = array_records(s, at);
-    let first = first_plan(reading);
+    let start = first_plan(reading);
     let mut firsts = [0u32; MOST_RECORDS];
     let mut seconds = [0u32; MOST_RECORDS];
     let nodes = at.nodes;
@@ -78,21 +52,21 @@ pub fn put_nodes_and_constraints(s: &[u8], at: Places, reading: Reading, out: &m
     let mut n = 0;
     while n < count {
         let kind = kind_at(s, nodes + n);
-        let plan = first + PLAN_SIZE * counted(kind);
+        let plan = plan_at(&plans, start, kind);
         let words = node_words(s, nodes + n, &codes, &arrays, &firsts, &seconds);
         put_rows(
             out,
             RECORD_SIZE * (nodes + next as usize),
             &rows,
-            counted(plans[plan]),
-            counted(plans[plan + 1]),
+            plan.from,
+            plan.count,
             &words,
             next,
             kind,
         );
-        firsts[n] = word_of(&words, next, plans[plan + 2]);
-        seconds[n] = word_of(&words, next, plans[plan + 3]);
-        next += wide(plans[plan + 1]);
+        firsts[n] = word_of(&words, next, plan.first);
+        seconds[n] = word_of(&words, next, plan.second);
+        next += plan.count as u32;
         n += 1;
     }
     put_constraints(s, at, &firsts, nodes + next as usize, out);

@@ -1,62 +1,62 @@
 -- `translator::new_records` meets its contract.
 -- Assumes nothing.
-use Rattle.translator.proofs.States.{state, state-zero, length-state-suc, new-count}
-use Rattle.reading.specs.Readings.{meant}
-use Rattle.translator.specs.Plans.{rulePlans, planIndex, planAt}
-use Rattle.layout.proofs.Order.{laid}
-use Rattle.layout.proofs.Runs.{within-table}
-use Rattle.answers.specs.Sections.{nodesAt, nodeCount, constraintCount}
+use mathlib.Core.Path.{_≡_, ap}
+use Prim.Native.Nat.{_+_, _*_, _-_, _≤_, _<_}
+use native.Mathlib.Omega.{arith}
+use lib.ListN.{length}
+use Rattle.language.specs.Readings.{Reading}
 use Rattle.rules.specs.Writing.{Translated, nothingYet}
 use Rattle.table.specs.Records.{recordCount, kindAt}
-use lib.ListN.{length, getD}
-use native.Mathlib.Omega.{arith}
-use Prim.Native.Nat.{_+_, _*_, _-_, _≤_}
-use mathlib.Core.Path.{_≡_, ap, _∙_}
+use Rattle.answers.specs.Sections.{nodesAt, nodeCount, constraintCount}
+use Rattle.layout.proofs.Order.{laid}
+use Rattle.layout.proofs.Runs.{within-table}
+use Rattle.reading.specs.Readings.{meant}
+use Rattle.translator.specs.declared.plans.Plan.{Plan}
+use Rattle.translator.specs.Plans.{readingNumber}
+use Rattle.translator.proofs.Planned.{planned}
+use Rattle.translator.proofs.States.{state, state-zero, length-state-suc, new-count}
 use Rattle.translator.proofs.new_records.Statement.{statement}
 use Rattle.translator.proofs.new_records.Tie as tie
 
 abbrev Inv-loop : tie.InvT-loop
-Inv-loop s reading plans nodes count total₀ n₀ total n = (total ≡ total₀ + length (state s (meant reading) n .rows)) × (total ≤ total₀ + 256 * n) × (n ≤ count)
+Inv-loop s plans start nodes count total₀ n₀ total n = ((ρ : Reading) → start ≡ 31 * readingNumber ρ → total ≡ total₀ + length (state s ρ n .rows)) × (total ≤ total₀ + 256 * n) × (n ≤ count)
 
 abbrev μ-loop : tie.MeasureT-loop
-μ-loop s reading plans nodes count total₀ n₀ total n = count - n
+μ-loop s plans start nodes count total₀ n₀ total n = count - n
+
+plans-requires : tie.Need-plans-requires Inv-loop μ-loop
+plans-requires c κs = tt
+
+first-plan-requires : tie.Need-first-plan-requires Inv-loop μ-loop
+first-plan-requires c κs = tt
 
 sub-count : tie.Need-sub-count Inv-loop μ-loop
-sub-count c = let l = laid (c .before .before .args .s .now) (c .before .before .pre .0) (c .before .before .pre .1) in omega (arith, l, l .order)
+sub-count c = let e = c .before .before .before .before in let l = laid (e .args .s .now) (e .pre .0) (e .pre .1) in omega (arith, l, l .order)
 
 sub-total : tie.Need-sub-total Inv-loop μ-loop
-sub-total c = let l = laid (c .before .before .before .args .s .now) (c .before .before .before .pre .0) (c .before .before .before .pre .1) in omega (arith, l, l .order)
+sub-total c = let e = c .before .before .before .before .before in let l = laid (e .args .s .now) (e .pre .0) (e .pre .1) in omega (arith, l, l .order)
 
 add-total : tie.Need-add-total Inv-loop μ-loop
-add-total c = let l = laid (c .before .before .before .args .s .now) (c .before .before .before .pre .0) (c .before .before .before .pre .1) in omega (arith, l, l .order)
+add-total c = let e = c .before .before .before .before .before in let l = laid (e .args .s .now) (e .pre .0) (e .pre .1) in omega (arith, l, l .order)
 
 loop-holds : tie.Need-loop-holds Inv-loop μ-loop
 unfolding nothingYet
-loop-holds c = let z = ap (λ (t : Translated). length (t .rows)) (state-zero (c .before .before .before .args .s .now) (meant (c .before .before .before .args .reading))) in (omega (arith, z), omega arith, omega arith)
+loop-holds c = ((λ ρ first. omega (arith, ap (λ (t : Translated). length (t .rows)) (state-zero (c .before .before .before .before .before .args .s .now) ρ))), omega arith, omega arith)
 
 add-kind-at : tie.Need-add-kind-at Inv-loop μ-loop
 unfolding recordCount
-add-kind-at c = let l = laid (c .before .before .before .before .before .args .s .now) (c .before .before .before .before .before .pre .0) (c .before .before .before .before .before .pre .1) in omega (arith, l, l .order)
+add-kind-at c = let e = c .before .before .before .before .before .before .before .before in let l = laid (e .args .s .now) (e .pre .0) (e .pre .1) in omega (arith, l, l .order)
 
 kind-at-requires : tie.Need-kind-at-requires Inv-loop μ-loop
-kind-at-requires c κs = let l = laid (c .before .before .before .before .before .args .s .now) (c .before .before .before .before .before .pre .0) (c .before .before .before .before .before .pre .1) in within-table (c .before .before .before .before .before .args .s .now) (omega (arith, l, l .order))
+kind-at-requires c κs = let e = c .before .before .before .before .before .before .before .before in let l = laid (e .args .s .now) (e .pre .0) (e .pre .1) in within-table (e .args .s .now) (omega (arith, l, l .order))
 
-plan-index-requires : tie.Need-plan-index-requires Inv-loop μ-loop
+plan-at-requires : tie.Need-plan-at-requires Inv-loop μ-loop
 unfolding nodeCount
-plan-index-requires c κs = let l = laid (c .before .before .before .before .before .before .args .s .now) (c .before .before .before .before .before .before .pre .0) (c .before .before .before .before .before .before .pre .1) in rw (c .kind-at .ensures, l .nodes) (c .before .before .before .before .before .before .pre .0 .known-kinds (c .before .before .loop .n) (omega (arith, l)))
-
-add-counted : tie.Need-add-counted Inv-loop μ-loop
-add-counted c = omega (arith, c .plan-index .ensures .1)
-
-array-read-counted : tie.Need-array-read-counted Inv-loop μ-loop
-array-read-counted c = omega (arith, c .plan-index .ensures .1)
-
-counted-requires : tie.Need-counted-requires Inv-loop μ-loop
-counted-requires c κs = tt
+plan-at-requires c κs = let e = c .before .before .before .before .before .before .before .before .before in let l = laid (e .args .s .now) (e .pre .0) (e .pre .1) in (c .before .before .before .before .before .before .first-plan .ensures .1, rw (c .kind-at .ensures, l .nodes) (e .pre .0 .known-kinds (c .before .before .before .loop .n) (omega (arith, l))))
 
 add-total-2 : tie.Need-add-total-2 Inv-loop μ-loop
 unfolding recordCount
-add-total-2 c = let l = laid (c .before .before .before .before .before .before .before .before .args .s .now) (c .before .before .before .before .before .before .before .before .pre .0) (c .before .before .before .before .before .before .before .before .pre .1) in omega (arith, c .counted .ensures .1, c .before .before .before .before .loop .inv .1, l, l .order)
+add-total-2 c = let e = c .before .before .before .before .before .before .before .before .before .before .before in let l = laid (e .args .s .now) (e .pre .0) (e .pre .1) in omega (arith, c .before .plan-at .ensures .1, c .before .before .before .before .before .loop .inv .1, l, l .order)
 
 add-n : tie.Need-add-n Inv-loop μ-loop
 add-n c = omega arith
@@ -65,12 +65,22 @@ loop-less : tie.Need-loop-less Inv-loop μ-loop
 loop-less c = omega arith
 
 loop-again : tie.Need-loop-again Inv-loop μ-loop
-unfolding nodeCount rulePlans planAt
-loop-again c = let l = laid (c .before .before .before .before .before .before .before .before .args .s .now) (c .before .before .before .before .before .before .before .before .pre .0) (c .before .before .before .before .before .before .before .before .pre .1) in let k = c .before .before .before .before .before .before .before .before .pre .0 .known-kinds (c .before .before .before .before .loop .n) (omega (arith, l)) in let e : c .before .before .before .before .before .before .before .before .args .at .nodes + c .before .before .before .before .loop .n ≡ nodesAt (c .before .before .before .before .before .before .before .before .args .s .now) + c .before .before .before .before .loop .n = omega (arith, l .nodes) in let m = length-state-suc (c .before .before .before .before .before .before .before .before .args .s .now) (meant (c .before .before .before .before .before .before .before .before .args .reading)) (c .before .before .before .before .loop .n) e (rw e k) in let q : c .counted .result ≡ planAt (meant (c .before .before .before .before .before .before .before .before .args .reading)) (kindAt (c .before .before .before .before .before .before .before .before .args .s .now) (c .before .before .before .before .before .before .before .before .args .at .nodes + c .before .before .before .before .loop .n)) 1 = c .counted .ensures .0 ∙ ap (λ i. getD rulePlans (i + 1) 0) (c .before .plan-index .ensures .0 ∙ ap (planIndex (meant (c .before .before .before .before .before .before .before .before .args .reading))) (c .before .before .kind-at .ensures)) in (omega (arith, m, q, c .before .before .before .before .loop .inv .0), omega (arith, c .counted .ensures .1, c .before .before .before .before .loop .inv .1), omega arith)
+unfolding nodeCount
+loop-again c =
+    let e = c .before .before .before .before .before .before .before .before .before .before .before in
+    let s = e .args .s .now in
+    let i = c .before .before .before .before .before .loop in
+    let l = laid s (e .pre .0) (e .pre .1) in
+    let at-node : e .args .at .nodes + i .n ≡ nodesAt s + i .n = omega (arith, l .nodes) in
+    let known : kindAt s (e .args .at .nodes + i .n) < 31 = rw at-node (e .pre .0 .known-kinds (i .n) (omega (arith, l))) in (
+      (λ ρ first. omega (arith, i .inv .0 ρ first, length-state-suc s ρ (i .n) at-node known, ap (λ (p : Plan). p .count) (planned ρ (c .before .before .before .before .before .before .before .before .before .plans .ensures) first (c .before .before .kind-at .ensures) known (c .before .plan-at .ensures .0)))),
+      omega (arith, c .before .plan-at .ensures .1, i .inv .1),
+      omega arith,
+    )
 
 returns : tie.Need-returns Inv-loop μ-loop
 unfolding nodeCount constraintCount
-returns c = let l = laid (c .before .before .before .before .before .args .s .now) (c .before .before .before .before .before .pre .0) (c .before .before .before .before .before .pre .1) in omega (arith, c .before .loop .inv .0, c .before .loop .inv .2, l, l .order, new-count (c .before .before .before .before .before .args .s .now) (meant (c .before .before .before .before .before .args .reading)) (c .before .loop .n) (omega (arith, c .before .loop .inv .2, l)))
+returns c = let e = c .before .before .before .before .before .before .before in let l = laid (e .args .s .now) (e .pre .0) (e .pre .1) in let i = c .before .loop in let ρ = meant (e .args .reading) in omega (arith, i .inv .0 ρ (c .before .before .before .before .first-plan .ensures .0), i .inv .2, l, l .order, new-count (e .args .s .now) ρ (i .n) (omega (arith, i .inv .2, l)))
 
 pub new-records-spec : {M : Type 1} → statement M
 new-records-spec =
@@ -78,16 +88,15 @@ new-records-spec =
     (tie.spec
     Inv-loop
     μ-loop
+    plans-requires
+    first-plan-requires
     sub-count
     sub-total
     add-total
     loop-holds
     add-kind-at
     kind-at-requires
-    plan-index-requires
-    add-counted
-    array-read-counted
-    counted-requires
+    plan-at-requires
     add-total-2
     add-n
     loop-less

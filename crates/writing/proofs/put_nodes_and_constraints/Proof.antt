@@ -1,76 +1,77 @@
 -- `writing::put_nodes_and_constraints` meets its contract.
 -- Assumes nothing.
 use mathlib.Core.Path.{_≡_, refl, sym, ap, _∙_}
-use Prim.Native.Nat.{ℕ, _+_, _-_, _*_, _≤_, _<_}
+use Prim.Native.Nat.{_+_, _-_, _*_, _≤_}
 use native.Mathlib.Omega.{arith}
-use lib.ListN.{length, getD}
+use lib.ListN.{length}
 use Rattle.language.specs.Readings.{Reading}
 use Rattle.table.specs.Records.{recordSize, kindAt}
 use Rattle.answers.specs.Sections.{nodeCount}
 use Rattle.layout.proofs.Checked.{checked}
 use Rattle.layout.proofs.Order.{laid}
 use Rattle.layout.proofs.Runs.{within-table}
+use Rattle.translator.specs.declared.plans.Plan.{Plan}
 use Rattle.translator.specs.Cells.{place}
-use Rattle.translator.specs.Plans.{ruleRows, rulePlans, readingNumber, planAt}
+use Rattle.translator.specs.Plans.{readingNumber, planAt}
+use Rattle.translator.proofs.Planned.{planned}
 use Rattle.reading.specs.Readings.{meant}
 use Rattle.writing.proofs.Known.{known-arrays}
-use Rattle.writing.proofs.PlanNumbers.{planned, rows-within}
+use Rattle.writing.proofs.PlanRows.{length-rows, rows-fit}
 use Rattle.writing.proofs.Standing.{Standing, standing-none, standing-more, standing-all}
 use Rattle.writing.proofs.Turns.{Turn, turn, constraints-fit, next-small}
 use Rattle.writing.proofs.put_nodes_and_constraints.Statement.{statement}
 use Rattle.writing.proofs.put_nodes_and_constraints.Tie as tie
 
 abbrev Inv-loop : tie.InvT-loop
-Inv-loop s at out₀ plans rows codes arrays first firsts₀ seconds₀ nodes count next₀ n₀ out firsts seconds next n =
-    ((ρ : Reading) → first ≡ 124 * readingNumber ρ → Standing s ρ out₀ out firsts seconds next n) × (n ≤ count)
+Inv-loop s at out₀ plans rows codes arrays start firsts₀ seconds₀ nodes count next₀ n₀ out firsts seconds next n =
+    ((ρ : Reading) → start ≡ 31 * readingNumber ρ → Standing s ρ out₀ out firsts seconds next n) × (n ≤ count)
 
 abbrev μ-loop : tie.MeasureT-loop
-μ-loop s at out₀ plans rows codes arrays first firsts₀ seconds₀ nodes count next₀ n₀ out firsts seconds next n =
+μ-loop s at out₀ plans rows codes arrays start firsts₀ seconds₀ nodes count next₀ n₀ out firsts seconds next n =
     count - n
 
 -- what stands at a turn, and what the turn knows
-standing : (c : tie.In-loop Inv-loop μ-loop) → Standing (c .before .before .before .before .before .before .before .before .args .s .now) (meant (c .before .before .before .before .before .before .before .before .args .reading)) (c .before .before .before .before .before .before .before .before .args .out .now) (c .before .loop .out) (c .before .loop .firsts) (c .before .loop .seconds) (c .before .loop .next) (c .before .loop .n)
-standing c = c .before .loop .inv .0 (meant (c .before .before .before .before .before .before .before .before .args .reading)) (c .before .before .before .first-plan .ensures .0)
+standing : (c : tie.In-loop Inv-loop μ-loop) → Standing (c .before .before .before .before .before .before .before .before .before .before .args .s .now) (meant (c .before .before .before .before .before .before .before .before .before .before .args .reading)) (c .before .before .before .before .before .before .before .before .before .before .args .out .now) (c .before .loop .out) (c .before .loop .firsts) (c .before .loop .seconds) (c .before .loop .next) (c .before .loop .n)
+standing c = c .before .loop .inv .0 (meant (c .before .before .before .before .before .before .before .before .before .before .args .reading)) (c .before .before .before .first-plan .ensures .0)
 
-node-turn : (c : tie.In-loop Inv-loop μ-loop) → Turn (c .before .before .before .before .before .before .before .before .args .s .now) (meant (c .before .before .before .before .before .before .before .before .args .reading)) (length (c .before .before .before .before .before .before .before .before .args .out .now)) (c .before .before .before .before .before .before .before .before .args .at .nodes) (c .before .loop .next) (c .before .loop .n)
-node-turn c = let e = c .before .before .before .before .before .before .before .before in turn (e .args .s .now) (meant (e .args .reading)) (e .pre .0) (e .pre .1 .0) (e .pre .1 .1 .0) (e .pre .1 .1 .1) (standing c) (c .loop-test .taken)
+node-turn : (c : tie.In-loop Inv-loop μ-loop) → Turn (c .before .before .before .before .before .before .before .before .before .before .args .s .now) (meant (c .before .before .before .before .before .before .before .before .before .before .args .reading)) (length (c .before .before .before .before .before .before .before .before .before .before .args .out .now)) (c .before .before .before .before .before .before .before .before .before .before .args .at .nodes) (c .before .loop .next) (c .before .loop .n)
+node-turn c = let e = c .before .before .before .before .before .before .before .before .before .before in turn (e .args .s .now) (meant (e .args .reading)) (e .pre .0) (e .pre .1 .0) (e .pre .1 .1 .0) (e .pre .1 .1 .1) (standing c) (c .loop-test .taken)
 
--- the plan of the node's kind is among the plans
-plan-small : (c : tie.After-counted Inv-loop μ-loop) → c .before .before .before .before .before .first-plan .result + 4 * c .counted .result < 369
-plan-small c = omega (arith, c .before .before .before .before .before .first-plan .ensures .1, c .counted .ensures, c .before .kind-at .ensures, node-turn (c .before .before) .known .known-kind)
-
--- a number of the plan
-plan-number : (c : tie.After-counted Inv-loop μ-loop) (ρ : Reading) → c .before .before .before .before .before .first-plan .result ≡ 124 * readingNumber ρ → (i : ℕ) {j : ℕ} → j ≡ c .before .before .before .before .before .first-plan .result + 4 * c .counted .result + i → getD rulePlans j 0 ≡ planAt ρ (kindAt (c .before .before .before .before .before .before .before .before .before .before .args .s .now) (c .before .before .before .before .before .before .before .before .before .before .args .at .nodes + c .before .before .before .loop .n)) i
-plan-number c ρ f i e = planned ρ (kindAt (c .before .before .before .before .before .before .before .before .before .before .args .s .now) (c .before .before .before .before .before .before .before .before .before .before .args .at .nodes + c .before .before .before .loop .n)) i (node-turn (c .before .before) .known .known-kind) (omega (arith, c .counted .ensures, c .before .kind-at .ensures))
-
-plan-start : (c : tie.After-counted Inv-loop μ-loop) (ρ : Reading) → c .before .before .before .before .before .first-plan .result ≡ 124 * readingNumber ρ → getD rulePlans (c .before .before .before .before .before .first-plan .result + 4 * c .counted .result) 0 ≡ planAt ρ (kindAt (c .before .before .before .before .before .before .before .before .before .before .args .s .now) (c .before .before .before .before .before .before .before .before .before .before .args .at .nodes + c .before .before .before .loop .n)) 0
-plan-start c ρ f = plan-number c ρ f 0 {j = c .before .before .before .before .before .first-plan .result + 4 * c .counted .result} (omega arith)
+-- the plan is that of the node's kind
+node-plan : (c : tie.After-plan-at Inv-loop μ-loop) (ρ : Reading) → c .before .before .before .before .before .before .first-plan .result ≡ 31 * readingNumber ρ → c .plan-at .result ≡ planAt ρ (kindAt (c .before .before .before .before .before .before .before .before .before .before .before .before .before .args .s .now) (c .before .before .before .before .before .before .before .before .before .before .before .before .before .args .at .nodes + c .before .before .before .before .loop .n))
+node-plan c ρ first = planned ρ (c .before .before .before .before .before .before .before .before .before .before .plans .ensures) first (c .before .before .kind-at .ensures) (node-turn (c .before .before .before) .known .known-kind) (c .plan-at .ensures .0)
 
 -- what stands behind the last node
-standing-last : (c : tie.After-loop Inv-loop μ-loop) → Standing (c .before .before .before .before .before .before .before .before .args .s .now) (meant (c .before .before .before .before .before .before .before .before .args .reading)) (c .before .before .before .before .before .before .before .before .args .out .now) (c .before .loop .out) (c .before .loop .firsts) (c .before .loop .seconds) (c .before .loop .next) (c .before .loop .n)
-standing-last c = c .before .loop .inv .0 (meant (c .before .before .before .before .before .before .before .before .args .reading)) (c .before .before .before .first-plan .ensures .0)
+standing-last : (c : tie.After-loop Inv-loop μ-loop) → Standing (c .before .before .before .before .before .before .before .before .before .before .args .s .now) (meant (c .before .before .before .before .before .before .before .before .before .before .args .reading)) (c .before .before .before .before .before .before .before .before .before .before .args .out .now) (c .before .loop .out) (c .before .loop .firsts) (c .before .loop .seconds) (c .before .loop .next) (c .before .loop .n)
+standing-last c = c .before .loop .inv .0 (meant (c .before .before .before .before .before .before .before .before .before .before .args .reading)) (c .before .before .before .first-plan .ensures .0)
 
-all-nodes : (c : tie.After-loop Inv-loop μ-loop) → c .before .loop .n ≡ nodeCount (c .before .before .before .before .before .before .before .before .args .s .now)
+all-nodes : (c : tie.After-loop Inv-loop μ-loop) → c .before .loop .n ≡ nodeCount (c .before .before .before .before .before .before .before .before .before .before .args .s .now)
 unfolding nodeCount
-all-nodes c = let e = c .before .before .before .before .before .before .before .before in let l = laid (e .args .s .now) (checked (e .args .s .now) (e .pre .0)) (e .pre .1 .0) in omega (arith, l, c .loop-test .left, c .before .loop .inv .1)
+all-nodes c = let e = c .before .before .before .before .before .before .before .before .before .before in let l = laid (e .args .s .now) (checked (e .args .s .now) (e .pre .0)) (e .pre .1 .0) in omega (arith, l, c .loop-test .left, c .before .loop .inv .1)
 
-last-small : (c : tie.After-loop Inv-loop μ-loop) → 12 * (c .before .before .before .before .before .before .before .before .args .at .nodes + c .before .loop .next) ≤ 60_000
-last-small c = let e = c .before .before .before .before .before .before .before .before in next-small (e .args .s .now) (meant (e .args .reading)) (e .pre .0) (e .pre .1 .0) (e .pre .1 .1 .0) (e .pre .1 .1 .1) (standing-last c) (all-nodes c)
+last-small : (c : tie.After-loop Inv-loop μ-loop) → 12 * (c .before .before .before .before .before .before .before .before .before .before .args .at .nodes + c .before .loop .next) ≤ 60_000
+last-small c = let e = c .before .before .before .before .before .before .before .before .before .before in next-small (e .args .s .now) (meant (e .args .reading)) (e .pre .0) (e .pre .1 .0) (e .pre .1 .1 .0) (e .pre .1 .1 .1) (standing-last c) (all-nodes c)
+
+plans-requires : tie.Need-plans-requires Inv-loop μ-loop
+plans-requires c κs = tt
+
+rows-requires : tie.Need-rows-requires Inv-loop μ-loop
+rows-requires c κs = tt
 
 x-codes-requires : tie.Need-x-codes-requires Inv-loop μ-loop
 x-codes-requires c κs = tt
 
 array-records-requires : tie.Need-array-records-requires Inv-loop μ-loop
-array-records-requires c κs = let e = c .before .before .before in (checked (e .args .s .now) (e .pre .0), e .pre .1 .0)
+array-records-requires c κs = let e = c .before .before .before .before .before in (checked (e .args .s .now) (e .pre .0), e .pre .1 .0)
 
 first-plan-requires : tie.Need-first-plan-requires Inv-loop μ-loop
 first-plan-requires c κs = tt
 
 sub-count : tie.Need-sub-count Inv-loop μ-loop
-sub-count c = let e = c .before .before .before .before .before .before in let l = laid (e .args .s .now) (checked (e .args .s .now) (e .pre .0)) (e .pre .1 .0) in omega (arith, l, l .order)
+sub-count c = let e = c .before .before .before .before .before .before .before .before in let l = laid (e .args .s .now) (checked (e .args .s .now) (e .pre .0)) (e .pre .1 .0) in omega (arith, l, l .order)
 
 loop-holds : tie.Need-loop-holds Inv-loop μ-loop
-loop-holds c = ((λ ρ e. standing-none (c .before .before .before .before .before .before .args .s .now) ρ (c .before .before .before .before .before .before .args .out .now) refl refl), omega arith)
+loop-holds c = ((λ ρ first. standing-none (c .before .before .before .before .before .before .before .before .args .s .now) ρ (c .before .before .before .before .before .before .before .before .args .out .now) refl refl), omega arith)
 
 add-kind-at : tie.Need-add-kind-at Inv-loop μ-loop
 add-kind-at c = omega (arith, node-turn c .few)
@@ -78,123 +79,80 @@ add-kind-at c = omega (arith, node-turn c .few)
 kind-at-requires : tie.Need-kind-at-requires Inv-loop μ-loop
 kind-at-requires c κs = within-table _ (node-turn c .known .inside)
 
-counted-requires : tie.Need-counted-requires Inv-loop μ-loop
-counted-requires c κs = tt
-
-mul-plan : tie.Need-mul-plan Inv-loop μ-loop
-mul-plan c = omega (arith, plan-small c)
-
-add-plan : tie.Need-add-plan Inv-loop μ-loop
-add-plan c = omega (arith, plan-small c)
+plan-at-requires : tie.Need-plan-at-requires Inv-loop μ-loop
+plan-at-requires c κs = (c .before .before .before .before .before .first-plan .ensures .1, rw (c .before .kind-at .ensures) (node-turn (c .before .before) .known .known-kind))
 
 add-node-words : tie.Need-add-node-words Inv-loop μ-loop
-add-node-words c = omega (arith, node-turn (c .before .before) .few)
+add-node-words c = omega (arith, node-turn (c .before .before .before) .few)
 
 node-words-requires : tie.Need-node-words-requires Inv-loop μ-loop
-node-words-requires c κs = let i = c .before .before .before .before .before .before in let e = c .before .before .before .before .before .before .before .before .before .before .before .before .before .before in (node-turn i .known, (known-arrays (e .args .s .now) (e .pre .0), (c .before .before .before .before .before .before .before .before .before .before .before .x-codes .ensures, (c .before .before .before .before .before .before .before .before .before .before .array-records .ensures, (standing i .firsts-held .sized, standing i .seconds-held .sized)))))
+node-words-requires c κs = let i = c .before .before .before .before .before .before .before in let e = c .before .before .before .before .before .before .before .before .before .before .before .before .before .before .before .before .before in (node-turn i .known, (known-arrays (e .args .s .now) (e .pre .0), (c .before .before .before .before .before .before .before .before .before .before .before .before .x-codes .ensures, (c .before .before .before .before .before .before .before .before .before .before .before .array-records .ensures, (standing i .firsts-held .sized, standing i .seconds-held .sized)))))
 
 cast-put-rows : tie.Need-cast-put-rows Inv-loop μ-loop
-cast-put-rows c = omega (arith, node-turn (c .before .before .before .before .before .before .before .before) .small)
+cast-put-rows c = omega (arith, node-turn (c .before .before .before .before .before .before .before .before .before) .small)
 
 add-put-rows : tie.Need-add-put-rows Inv-loop μ-loop
-add-put-rows c = omega (arith, node-turn (c .before .before .before .before .before .before .before .before) .small)
+add-put-rows c = omega (arith, node-turn (c .before .before .before .before .before .before .before .before .before) .small)
 
 mul-put-rows : tie.Need-mul-put-rows Inv-loop μ-loop
-mul-put-rows c = omega (arith, node-turn (c .before .before .before .before .before .before .before .before) .small)
+mul-put-rows c = omega (arith, node-turn (c .before .before .before .before .before .before .before .before .before) .small)
 
 slice-aggregate-put-rows : tie.Need-slice-aggregate-put-rows Inv-loop μ-loop
-slice-aggregate-put-rows c = refl
-
-array-read-counted : tie.Need-array-read-counted Inv-loop μ-loop
-array-read-counted c = omega (arith, plan-small (c .before .before .before .before .before .before .before))
-
-counted-requires-2 : tie.Need-counted-requires-2 Inv-loop μ-loop
-counted-requires-2 c κs = tt
-
-add-counted : tie.Need-add-counted Inv-loop μ-loop
-add-counted c = omega (arith, plan-small (c .before .before .before .before .before .before .before .before))
-
-array-read-counted-2 : tie.Need-array-read-counted-2 Inv-loop μ-loop
-array-read-counted-2 c = omega (arith, plan-small (c .before .before .before .before .before .before .before .before))
-
-counted-requires-3 : tie.Need-counted-requires-3 Inv-loop μ-loop
-counted-requires-3 c κs = tt
+slice-aggregate-put-rows c = sym (length-rows (c .before .before .before .before .before .before .before .before .before .before .before .before .before .before .before .before .rows .ensures))
 
 put-rows-requires : tie.Need-put-rows-requires Inv-loop μ-loop
-unfolding recordSize rulePlans
+unfolding recordSize
 put-rows-requires c κs =
-    let d = c .before .before .before .before .before .before .before .before .before .before in
-    let i = c .before .before .before .before .before .before .before .before .before .before .before .before in
-    let reading = c .before .before .before .before .before .before .before .before .before .before .before .before .before .before .before .before .before .before .before .before .args .reading in
-    let first = c .before .before .before .before .before .before .before .before .before .before .before .before .before .before .before .first-plan .ensures .0 in
-    let from = c .before .before .counted2 .ensures ∙ plan-start d (meant reading) first in
-    let count = c .before .counted3 .ensures ∙ plan-number d (meant reading) first 1 refl in
-    let k = node-turn i .known .known-kind in
-    (omega (arith, node-turn i .small), (omega (arith, from, count, rows-within (meant reading) _ k), omega (arith, count, node-turn i .fits, standing i .sized)))
-
-add-word-of : tie.Need-add-word-of Inv-loop μ-loop
-add-word-of c = omega (arith, plan-small (c .before .before .before .before .before .before .before .before .before .before .before .before .before .before))
-
-array-read-word-of : tie.Need-array-read-word-of Inv-loop μ-loop
-array-read-word-of c = omega (arith, plan-small (c .before .before .before .before .before .before .before .before .before .before .before .before .before .before))
+    let i = c .before .before .before .before .before .before .before .before .before .before .before in
+    let p = node-plan (c .before .before .before .before .before .before .before .before) (meant (c .before .before .before .before .before .before .before .before .before .before .before .before .before .before .before .before .before .before .before .before .before .args .reading)) (c .before .before .before .before .before .before .before .before .before .before .before .before .before .before .first-plan .ensures .0) in
+    (omega (arith, node-turn i .small), (rows-fit (c .before .before .before .before .before .before .before .before .before .before .before .before .before .before .before .before .before .rows .ensures) _ _ (node-turn i .known .known-kind) p, omega (arith, ap (λ (q : Plan). q .count) p, node-turn i .fits, standing i .sized)))
 
 word-of-requires : tie.Need-word-of-requires Inv-loop μ-loop
-word-of-requires c κs = omega (arith, node-turn (c .before .before .before .before .before .before .before .before .before .before .before .before .before .before .before .before) .small)
+word-of-requires c κs = omega (arith, node-turn (c .before .before .before .before .before .before .before .before .before .before .before .before .before .before .before) .small)
 
 mul-firsts : tie.Need-mul-firsts Inv-loop μ-loop
-mul-firsts c = omega (arith, node-turn (c .before .before .before .before .before .before .before .before .before .before .before .before .before .before .before .before .before) .few)
+mul-firsts c = omega (arith, node-turn (c .before .before .before .before .before .before .before .before .before .before .before .before .before .before .before .before) .few)
 
 array-write-firsts : tie.Need-array-write-firsts Inv-loop μ-loop
-array-write-firsts c = omega (arith, node-turn (c .before .before .before .before .before .before .before .before .before .before .before .before .before .before .before .before .before) .few)
-
-add-word-of-2 : tie.Need-add-word-of-2 Inv-loop μ-loop
-add-word-of-2 c = omega (arith, plan-small (c .before .before .before .before .before .before .before .before .before .before .before .before .before .before .before .before))
-
-array-read-word-of-2 : tie.Need-array-read-word-of-2 Inv-loop μ-loop
-array-read-word-of-2 c = omega (arith, plan-small (c .before .before .before .before .before .before .before .before .before .before .before .before .before .before .before .before))
+array-write-firsts c = omega (arith, node-turn (c .before .before .before .before .before .before .before .before .before .before .before .before .before .before .before .before) .few)
 
 word-of-requires-2 : tie.Need-word-of-requires-2 Inv-loop μ-loop
-word-of-requires-2 c κs = omega (arith, node-turn (c .before .before .before .before .before .before .before .before .before .before .before .before .before .before .before .before .before .before) .small)
+word-of-requires-2 c κs = omega (arith, node-turn (c .before .before .before .before .before .before .before .before .before .before .before .before .before .before .before .before .before) .small)
 
 mul-seconds : tie.Need-mul-seconds Inv-loop μ-loop
-mul-seconds c = omega (arith, node-turn (c .before .before .before .before .before .before .before .before .before .before .before .before .before .before .before .before .before .before .before) .few)
+mul-seconds c = omega (arith, node-turn (c .before .before .before .before .before .before .before .before .before .before .before .before .before .before .before .before .before .before) .few)
 
 array-write-seconds : tie.Need-array-write-seconds Inv-loop μ-loop
-array-write-seconds c = omega (arith, node-turn (c .before .before .before .before .before .before .before .before .before .before .before .before .before .before .before .before .before .before .before) .few)
+array-write-seconds c = omega (arith, node-turn (c .before .before .before .before .before .before .before .before .before .before .before .before .before .before .before .before .before .before) .few)
 
-add-wide : tie.Need-add-wide Inv-loop μ-loop
-add-wide c = omega (arith, plan-small (c .before .before .before .before .before .before .before .before .before .before .before .before .before .before .before .before .before))
-
-array-read-wide : tie.Need-array-read-wide Inv-loop μ-loop
-array-read-wide c = omega (arith, plan-small (c .before .before .before .before .before .before .before .before .before .before .before .before .before .before .before .before .before))
-
-wide-requires : tie.Need-wide-requires Inv-loop μ-loop
-wide-requires c κs = tt
+cast-next : tie.Need-cast-next Inv-loop μ-loop
+cast-next c = omega (arith, c .before .before .before .before .before .before .before .before .before .before .before .before .before .before .before .before .plan-at .ensures .1)
 
 add-next : tie.Need-add-next Inv-loop μ-loop
-unfolding rulePlans
-add-next c = let d = c .before .before .before .before .before .before .before .before .before .before .before .before .before .before .before .before .before .before in let count = c .wide .ensures ∙ plan-number d (meant (c .before .before .before .before .before .before .before .before .before .before .before .before .before .before .before .before .before .before .before .before .before .before .before .before .before .before .before .before .args .reading)) (c .before .before .before .before .before .before .before .before .before .before .before .before .before .before .before .before .before .before .before .before .before .before .before .first-plan .ensures .0) 1 refl in omega (arith, count, node-turn (d .before .before) .small)
+add-next c = let p = node-plan (c .before .before .before .before .before .before .before .before .before .before .before .before .before .before .before .before) (meant (c .before .before .before .before .before .before .before .before .before .before .before .before .before .before .before .before .before .before .before .before .before .before .before .before .before .before .before .before .before .args .reading)) (c .before .before .before .before .before .before .before .before .before .before .before .before .before .before .before .before .before .before .before .before .before .before .first-plan .ensures .0) in omega (arith, ap (λ (q : Plan). q .count) p, node-turn (c .before .before .before .before .before .before .before .before .before .before .before .before .before .before .before .before .before .before .before) .small)
 
 add-n : tie.Need-add-n Inv-loop μ-loop
-add-n c = omega (arith, node-turn (c .before .before .before .before .before .before .before .before .before .before .before .before .before .before .before .before .before .before .before .before) .few)
+add-n c = omega (arith, node-turn (c .before .before .before .before .before .before .before .before .before .before .before .before .before .before .before .before .before .before .before) .few)
 
 loop-less : tie.Need-loop-less Inv-loop μ-loop
-loop-less c = omega (arith, c .before .before .before .before .before .before .before .before .before .before .before .before .before .before .before .before .before .before .before .before .loop-test .taken)
+loop-less c = omega (arith, c .before .before .before .before .before .before .before .before .before .before .before .before .before .before .before .before .before .before .before .loop-test .taken)
 
 loop-again : tie.Need-loop-again Inv-loop μ-loop
-unfolding recordSize rulePlans ruleRows
+unfolding recordSize
 loop-again c =
-    let d = c .before .before .before .before .before .before .before .before .before .before .before .before .before .before .before .before .before .before in
-    let i = c .before .before .before .before .before .before .before .before .before .before .before .before .before .before .before .before .before .before .before .before in
-    let s = c .before .before .before .before .before .before .before .before .before .before .before .before .before .before .before .before .before .before .before .before .before .before .before .before .before .before .before .before .args .s .now in
+    let i = c .before .before .before .before .before .before .before .before .before .before .before .before .before .before .before .before .before .before .before in
+    let s = c .before .before .before .before .before .before .before .before .before .before .before .before .before .before .before .before .before .before .before .before .before .before .before .before .before .before .before .before .before .args .s .now in
+    let words = c .before .before .before .before .before .before .before .before .before .before .before .node-words .result in
     let t = node-turn i in (
-      (λ ρ first. standing-more s ρ (i .before .loop .inv .0 ρ first)
-          (t .at-node) (c .before .before .before .before .before .before .before .before .before .before .before .before .before .before .before .before .before .before .before .kind-at .ensures) (t .known .known-kind) (omega (arith, t .few)) (c .before .before .before .before .before .before .before .before .before .before .before .before .before .node-words .ensures)
-          (c .before .before .before .before .before .before .before .before .before .before .counted2 .ensures ∙ plan-start d ρ first) (c .before .before .before .before .before .before .before .before .before .counted3 .ensures ∙ plan-number d ρ first 1 refl) (ap (λ m. 12 * (m + i .before .loop .next)) (t .nodes-is))
-          (c .before .before .before .before .before .before .before .put-rows .ensures)
-          (c .before .before .before .word-of .ensures ∙ ap (place (c .before .before .before .before .before .before .before .before .before .before .before .before .before .node-words .result) (i .before .loop .next)) (plan-number d ρ first 2 refl))
-          (c .before .word-of2 .ensures ∙ ap (place (c .before .before .before .before .before .before .before .before .before .before .before .before .before .node-words .result) (i .before .loop .next)) (plan-number d ρ first 3 refl))
-          (ap (λ m. i .before .loop .next + m) (c .wide .ensures ∙ sym (c .before .before .before .before .before .before .before .before .before .counted3 .ensures)))),
+      (λ ρ first.
+          let p = node-plan (c .before .before .before .before .before .before .before .before .before .before .before .before .before .before .before .before) ρ first in
+          standing-more s ρ (i .before .loop .inv .0 ρ first)
+          (t .at-node) (c .before .before .before .before .before .before .before .before .before .before .before .before .before .before .before .before .before .before .kind-at .ensures) (t .known .known-kind) (omega (arith, t .few)) (c .before .before .before .before .before .before .before .before .before .before .before .node-words .ensures)
+          (ap (λ (q : Plan). q .from) p) (ap (λ (q : Plan). q .count) p) (ap (λ m. 12 * (m + i .before .loop .next)) (t .nodes-is))
+          (c .before .before .before .before .before .before .before .before .before .before .before .before .before .before .before .before .before .before .before .before .before .before .before .before .before .rows .ensures) (c .before .before .before .before .before .before .before .put-rows .ensures)
+          (c .before .before .before .word-of .ensures ∙ ap (λ (q : Plan). place words (i .before .loop .next) (q .first)) p)
+          (c .before .word-of2 .ensures ∙ ap (λ (q : Plan). place words (i .before .loop .next) (q .second)) p)
+          refl),
       omega (arith, i .loop-test .taken),
     )
 
@@ -205,13 +163,13 @@ add-put-constraints : tie.Need-add-put-constraints Inv-loop μ-loop
 add-put-constraints c = omega (arith, last-small (c .before))
 
 put-constraints-requires : tie.Need-put-constraints-requires Inv-loop μ-loop
-put-constraints-requires c κs = let e = c .before .before .before .before .before .before .before .before .before .before in let d = c .before .before in (checked (e .args .s .now) (e .pre .0), (e .pre .1 .0, (standing-last d .firsts-held .sized, rw (standing-last d .sized) (constraints-fit (e .args .s .now) (meant (e .args .reading)) (e .pre .0) (e .pre .1 .0) (e .pre .1 .1 .0) (e .pre .1 .1 .1) (standing-last d) (all-nodes d)))))
+put-constraints-requires c κs = let e = c .before .before .before .before .before .before .before .before .before .before .before .before in let d = c .before .before in (checked (e .args .s .now) (e .pre .0), (e .pre .1 .0, (standing-last d .firsts-held .sized, rw (standing-last d .sized) (constraints-fit (e .args .s .now) (meant (e .args .reading)) (e .pre .0) (e .pre .1 .0) (e .pre .1 .1 .0) (e .pre .1 .1 .1) (standing-last d) (all-nodes d)))))
 
 same-length : tie.Need-same-length Inv-loop μ-loop
 same-length c = c .before .before .put-constraints .kept .1 .1 .1 .1 .0 ∙ standing-last (c .before .before .before .before .before) .sized
 
 returns : tie.Need-returns Inv-loop μ-loop
-returns c = let e = c .before .before .before .before .before .before .before .before .before .before .before .before .before in let d = c .before .before .before .before .before in let l = laid (e .args .s .now) (checked (e .args .s .now) (e .pre .0)) (e .pre .1 .0) in standing-all (e .args .s .now) (meant (e .args .reading)) (standing-last d) (all-nodes d) (ap (λ m. m + d .before .loop .next) (l .nodes)) (c .before .before .put-constraints .ensures)
+returns c = let e = c .before .before .before .before .before .before .before .before .before .before .before .before .before .before .before in let d = c .before .before .before .before .before in let l = laid (e .args .s .now) (checked (e .args .s .now) (e .pre .0)) (e .pre .1 .0) in standing-all (e .args .s .now) (meant (e .args .reading)) (standing-last d) (all-nodes d) (ap (λ m. m + d .before .loop .next) (l .nodes)) (c .before .before .put-constraints .ensures)
 
 pub put-nodes-and-constraints-spec : {M : Type 1} → statement M
 put-nodes-and-constraints-spec =
@@ -219,6 +177,8 @@ put-nodes-and-constraints-spec =
     (tie.spec
     Inv-loop
     μ-loop
+    plans-requires
+    rows-requires
     x-codes-requires
     array-records-requires
     first-plan-requires
@@ -226,34 +186,21 @@ put-nodes-and-constraints-spec =
     loop-holds
     add-kind-at
     kind-at-requires
-    counted-requires
-    mul-plan
-    add-plan
+    plan-at-requires
     add-node-words
     node-words-requires
     cast-put-rows
     add-put-rows
     mul-put-rows
     slice-aggregate-put-rows
-    array-read-counted
-    counted-requires-2
-    add-counted
-    array-read-counted-2
-    counted-requires-3
     put-rows-requires
-    add-word-of
-    array-read-word-of
     word-of-requires
     mul-firsts
     array-write-firsts
-    add-word-of-2
-    array-read-word-of-2
     word-of-requires-2
     mul-seconds
     array-write-seconds
-    add-wide
-    array-read-wide
-    wide-requires
+    cast-next
     add-next
     add-n
     loop-less

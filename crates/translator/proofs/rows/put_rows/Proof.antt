@@ -7,6 +7,7 @@ use lib.ListN.{length}
 use native.Mathlib.Omega.{arith}
 use Prim.Native.Nat.{_-_, _≤_}
 use mathlib.Core.Path.{_≡_, refl, ap, _∙_}
+use borrow.Author.Needs.{needs}
 use Rattle.translator.proofs.rows.put_rows.Statement.{statement}
 use Rattle.translator.proofs.rows.put_rows.Tie as tie
 
@@ -19,49 +20,44 @@ abbrev μ-loop : tie.MeasureT-loop
 loop-holds : tie.Need-loop-holds Inv-loop μ-loop
 loop-holds c = (rows-none (c .before .before .args .env .now) (c .before .before .args .rows .now) (c .before .before .args .base) (c .before .before .args .own) (c .before .before .args .from) (c .before .before .args .out .now) (c .before .before .args .at), refl, omega arith)
 
-add-r : tie.Need-add-r Inv-loop μ-loop
-unfolding recordSize
-add-r c = omega (arith, c .before .before .before .before .pre .0, c .before .before .before .before .pre .1 .0, c .before .before .before .before .pre .1 .1, c .before .before .before .before .good)
+add-row : tie.Need-add-row Inv-loop μ-loop
+add-row c = search needs
 
-mul-r : tie.Need-mul-r Inv-loop μ-loop
-unfolding recordSize
-mul-r c = omega (arith, c .before .before .before .before .pre .0, c .before .before .before .before .pre .1 .0, c .before .before .before .before .pre .1 .1, c .before .before .before .before .good)
+mul-row : tie.Need-mul-row Inv-loop μ-loop
+mul-row c = search needs
 
-shared-slice-read-kind-of : tie.Need-shared-slice-read-kind-of Inv-loop μ-loop
-shared-slice-read-kind-of c = omega (arith, c .before .before .before .before .before .pre .0, c .before .before .before .before .before .pre .1 .0, c .before .before .before .before .before .pre .1 .1, c .before .before .before .before .before .good)
+shared-slice-read-row : tie.Need-shared-slice-read-row Inv-loop μ-loop
+shared-slice-read-row c = search needs
+
+cast-kind-of : tie.Need-cast-kind-of Inv-loop μ-loop
+cast-kind-of c = search needs
 
 kind-of-requires : tie.Need-kind-of-requires Inv-loop μ-loop
-kind-of-requires c κs = tt
+kind-of-requires c κs = search needs
 
-add-word-of : tie.Need-add-word-of Inv-loop μ-loop
-add-word-of c = omega (arith, c .before .before .before .before .before .before .pre .0, c .before .before .before .before .before .before .pre .1 .0, c .before .before .before .before .before .before .pre .1 .1, c .before .before .before .before .before .before .good)
-
-shared-slice-read-word-of : tie.Need-shared-slice-read-word-of Inv-loop μ-loop
-shared-slice-read-word-of c = omega (arith, c .before .before .before .before .before .before .before .pre .0, c .before .before .before .before .before .before .before .pre .1 .0, c .before .before .before .before .before .before .before .pre .1 .1, c .before .before .before .before .before .before .before .good)
+cast-word-of : tie.Need-cast-word-of Inv-loop μ-loop
+cast-word-of c = search needs
 
 word-of-requires : tie.Need-word-of-requires Inv-loop μ-loop
-word-of-requires c κs = c .before .before .before .before .before .before .before .pre .0
+word-of-requires c κs = search needs
 
-add-word-of-2 : tie.Need-add-word-of-2 Inv-loop μ-loop
-add-word-of-2 c = omega (arith, c .before .before .before .before .before .before .before .before .pre .0, c .before .before .before .before .before .before .before .before .pre .1 .0, c .before .before .before .before .before .before .before .before .pre .1 .1, c .before .before .before .before .before .before .before .before .good)
-
-shared-slice-read-word-of-2 : tie.Need-shared-slice-read-word-of-2 Inv-loop μ-loop
-shared-slice-read-word-of-2 c = omega (arith, c .before .before .before .before .before .before .before .before .before .pre .0, c .before .before .before .before .before .before .before .before .before .pre .1 .0, c .before .before .before .before .before .before .before .before .before .pre .1 .1, c .before .before .before .before .before .before .before .before .before .good)
+cast-word-of-2 : tie.Need-cast-word-of-2 Inv-loop μ-loop
+cast-word-of-2 c = search needs
 
 word-of-requires-2 : tie.Need-word-of-requires-2 Inv-loop μ-loop
-word-of-requires-2 c κs = c .before .before .before .before .before .before .before .before .before .pre .0
+word-of-requires-2 c κs = search needs
 
 mul-put-record : tie.Need-mul-put-record Inv-loop μ-loop
 unfolding recordSize
-mul-put-record c = omega (arith, c .before .before .before .before .before .before .before .before .before .before .before .pre .0, c .before .before .before .before .before .before .before .before .before .before .before .pre .1 .0, c .before .before .before .before .before .before .before .before .before .before .before .pre .1 .1, c .before .before .before .before .before .before .before .before .before .before .before .good, c .before .before .before .before .before .before .before .before .loop .inv .1)
+mul-put-record c = omega (arith, c .before .before .before .before .before .before .before .before .before .pre .0, c .before .before .before .before .before .before .before .before .before .pre .1 .0, c .before .before .before .before .before .before .before .before .before .pre .1 .1, c .before .before .before .before .before .before .before .before .before .good, c .before .before .before .before .before .before .loop .inv .1)
 
 add-put-record : tie.Need-add-put-record Inv-loop μ-loop
 unfolding recordSize
-add-put-record c = omega (arith, c .before .before .before .before .before .before .before .before .before .before .before .pre .0, c .before .before .before .before .before .before .before .before .before .before .before .pre .1 .0, c .before .before .before .before .before .before .before .before .before .before .before .pre .1 .1, c .before .before .before .before .before .before .before .before .before .before .before .good, c .before .before .before .before .before .before .before .before .loop .inv .1)
+add-put-record c = omega (arith, c .before .before .before .before .before .before .before .before .before .pre .0, c .before .before .before .before .before .before .before .before .before .pre .1 .0, c .before .before .before .before .before .before .before .before .before .pre .1 .1, c .before .before .before .before .before .before .before .before .before .good, c .before .before .before .before .before .before .loop .inv .1)
 
 put-record-requires : tie.Need-put-record-requires Inv-loop μ-loop
 unfolding recordSize
-put-record-requires c κs = omega (arith, c .before .before .before .before .before .before .before .before .before .before .before .pre .0, c .before .before .before .before .before .before .before .before .before .before .before .pre .1 .0, c .before .before .before .before .before .before .before .before .before .before .before .pre .1 .1, c .before .before .before .before .before .before .before .before .before .before .before .good, c .before .before .before .before .before .before .before .before .loop .inv .1)
+put-record-requires c κs = omega (arith, c .before .before .before .before .before .before .before .before .before .pre .0, c .before .before .before .before .before .before .before .before .before .pre .1 .0, c .before .before .before .before .before .before .before .before .before .pre .1 .1, c .before .before .before .before .before .before .before .before .before .good, c .before .before .before .before .before .before .loop .inv .1)
 
 add-j : tie.Need-add-j Inv-loop μ-loop
 add-j c = omega arith
@@ -70,7 +66,10 @@ loop-less : tie.Need-loop-less Inv-loop μ-loop
 loop-less c = omega arith
 
 loop-again : tie.Need-loop-again Inv-loop μ-loop
-loop-again c = let e = c .before .before .before .before .before .before .before .before .before .before .before .before .before .before .args in (rows-more (e .env .now) (e .rows .now) (e .base) (e .own) (e .from) (e .out .now) (e .at) (c .before .before .before .before .before .before .before .before .before .before .before .loop .j) (c .before .before .before .before .before .before .before .before .before .before .before .loop .inv .0) (c .before .before .put-record .ensures) (c .before .before .before .before .before .before .before .before .kind-of .ensures) (c .before .before .before .before .before .before .word-of .ensures) (c .before .before .before .before .word-of2 .ensures), c .before .before .put-record .kept .0 ∙ c .before .before .before .before .before .before .before .before .before .before .before .loop .inv .1, omega arith)
+loop-again c =
+    let e = c .before .before .before .before .before .before .before .before .before .before .before .before .args in
+    let l = c .before .before .before .before .before .before .before .before .before .loop in
+    (rows-more (e .env .now) (e .rows .now) (e .base) (e .own) (e .from) (e .out .now) (e .at) (l .j) (l .inv .0) (c .before .before .put-record .ensures) (c .before .before .before .before .before .before .kind-of .ensures) (c .before .before .before .before .before .word-of .ensures) (c .before .before .before .before .word-of2 .ensures), c .before .before .put-record .kept .0 ∙ l .inv .1, omega arith)
 
 same-length : tie.Need-same-length Inv-loop μ-loop
 same-length c = c .before .loop .inv .1
@@ -85,15 +84,14 @@ put-rows-spec =
     Inv-loop
     μ-loop
     loop-holds
-    add-r
-    mul-r
-    shared-slice-read-kind-of
+    add-row
+    mul-row
+    shared-slice-read-row
+    cast-kind-of
     kind-of-requires
-    add-word-of
-    shared-slice-read-word-of
+    cast-word-of
     word-of-requires
-    add-word-of-2
-    shared-slice-read-word-of-2
+    cast-word-of-2
     word-of-requires-2
     mul-put-record
     add-put-record

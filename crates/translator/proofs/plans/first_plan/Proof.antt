@@ -1,10 +1,10 @@
--- `writing::first_plan` meets its contract.
+-- `translator::plans::first_plan` meets its contract.
 -- Assumes nothing.
 use borrow.Author.Needs.{needs}
 use native.Mathlib.Omega.{arith}
 use Rattle.translator.specs.Plans.{readingNumber}
-use Rattle.writing.proofs.first_plan.Statement.{statement}
-use Rattle.writing.proofs.first_plan.Tie as tie
+use Rattle.translator.proofs.plans.first_plan.Statement.{statement}
+use Rattle.translator.proofs.plans.first_plan.Tie as tie
 
 enum-told : tie.Need-enum-told
 enum-told c = search needs
