@@ -22,8 +22,8 @@ use Rattle.evaluator.specs.declared.nodes.IntegerNode.the-variants as in
 use Rattle.evaluator.specs.declared.nodes.TruthNode.{TruthNode}
 use Rattle.evaluator.specs.declared.nodes.TruthNode.the-variants as truth
 use Rattle.operations.specs.Values.{integerOf, ofCalm, limitedTo}
-use Rattle.operations.specs.Integers.{integers, negated, numbered}
-use Rattle.operations.specs.Truths.{compared, connected, opposed}
+use Rattle.operations.specs.Integers.{arithmeticOf, divisionOf, integers, negated, numbered}
+use Rattle.operations.specs.Truths.{connectiveOf, compared, connected, opposed}
 use Rattle.evaluator.specs.Nodes.{integerCase, truthCase}
 use Rattle.evaluator.specs.Walks.{nodeCount, declared, rowAt, treesOf, Laid, settingOf, integerWalked, truthWalked, lookedUp, lookedUpTruth, integerAt, truthAt, sumAt, quantifiedAt}
 use Rattle.answers.proofs.Listed.{length-listed, getD-listed}
@@ -36,13 +36,8 @@ abbrev pub IntegerBelow : ℕ → IntegerNode → Type 0
 IntegerBelow n (integer.Constant v) = Unit {0}
 IntegerBelow n (integer.Variable v) = Unit {0}
 IntegerBelow n (integer.Slot s) = Unit {0}
-IntegerBelow n (integer.Add a b) = (a .0 < n) × (b .0 < n)
-IntegerBelow n (integer.Subtract a b) = (a .0 < n) × (b .0 < n)
-IntegerBelow n (integer.Multiply a b) = (a .0 < n) × (b .0 < n)
-IntegerBelow n (integer.Divide a b) = (a .0 < n) × (b .0 < n)
-IntegerBelow n (integer.Modulo a b) = (a .0 < n) × (b .0 < n)
-IntegerBelow n (integer.Least a b) = (a .0 < n) × (b .0 < n)
-IntegerBelow n (integer.Greatest a b) = (a .0 < n) × (b .0 < n)
+IntegerBelow n (integer.Calculated op a b) = (a .0 < n) × (b .0 < n)
+IntegerBelow n (integer.Divided op a b) = (a .0 < n) × (b .0 < n)
 IntegerBelow n (integer.Negate a) = a .0 < n
 IntegerBelow n (integer.BoolToInt a) = a .0 < n
 IntegerBelow n (integer.Lookup A a) = a .0 < n
@@ -51,10 +46,7 @@ IntegerBelow n (integer.Sum s a) = a .0 < n
 abbrev pub TruthBelow : ℕ → TruthNode → Type 0
 TruthBelow n (truth.Constant v) = Unit {0}
 TruthBelow n (truth.Variable v) = Unit {0}
-TruthBelow n (truth.And a b) = (a .0 < n) × (b .0 < n)
-TruthBelow n (truth.Or a b) = (a .0 < n) × (b .0 < n)
-TruthBelow n (truth.Implies a b) = (a .0 < n) × (b .0 < n)
-TruthBelow n (truth.Iff a b) = (a .0 < n) × (b .0 < n)
+TruthBelow n (truth.Connected op a b) = (a .0 < n) × (b .0 < n)
 TruthBelow n (truth.Equal a b) = (a .0 < n) × (b .0 < n)
 TruthBelow n (truth.Unequal a b) = (a .0 < n) × (b .0 < n)
 TruthBelow n (truth.AtMost a b) = (a .0 < n) × (b .0 < n)
@@ -121,13 +113,8 @@ module _ (ρ : readings.Reading) (bs places : List ℕ) (α : Assignment) (value
   integerOfCase (integer.Constant v) = limitedTo true (integerOf v)
   integerOfCase (integer.Variable v) = limitedTo true (some (valueOf α (v .0)))
   integerOfCase (integer.Slot s) = limitedTo true (some (settingOf values (s .0)))
-  integerOfCase (integer.Add a b) = integers (λ x y. some (arithmetic syntax.plus x y)) (integerAt ρ bs places α values (a .0)) (integerAt ρ bs places α values (b .0))
-  integerOfCase (integer.Subtract a b) = integers (λ x y. some (arithmetic syntax.minus x y)) (integerAt ρ bs places α values (a .0)) (integerAt ρ bs places α values (b .0))
-  integerOfCase (integer.Multiply a b) = integers (λ x y. some (arithmetic syntax.times x y)) (integerAt ρ bs places α values (a .0)) (integerAt ρ bs places α values (b .0))
-  integerOfCase (integer.Divide a b) = integers (division syntax.quot) (integerAt ρ bs places α values (a .0)) (integerAt ρ bs places α values (b .0))
-  integerOfCase (integer.Modulo a b) = integers (division syntax.rem) (integerAt ρ bs places α values (a .0)) (integerAt ρ bs places α values (b .0))
-  integerOfCase (integer.Least a b) = integers (λ x y. some (arithmetic syntax.least x y)) (integerAt ρ bs places α values (a .0)) (integerAt ρ bs places α values (b .0))
-  integerOfCase (integer.Greatest a b) = integers (λ x y. some (arithmetic syntax.most x y)) (integerAt ρ bs places α values (a .0)) (integerAt ρ bs places α values (b .0))
+  integerOfCase (integer.Calculated op a b) = integers (λ x y. some (arithmetic (arithmeticOf op) x y)) (integerAt ρ bs places α values (a .0)) (integerAt ρ bs places α values (b .0))
+  integerOfCase (integer.Divided op a b) = integers (division (divisionOf op)) (integerAt ρ bs places α values (a .0)) (integerAt ρ bs places α values (b .0))
   integerOfCase (integer.Negate a) = negated (integerAt ρ bs places α values (a .0))
   integerOfCase (integer.BoolToInt a) = numbered (truthAt ρ bs places α values (a .0))
   integerOfCase (integer.Lookup A i) = lookedUp readings.strict (declared bs places) α (A .0) (integerAt ρ bs places α values (i .0))
@@ -137,10 +124,7 @@ module _ (ρ : readings.Reading) (bs places : List ℕ) (α : Assignment) (value
   truthOfCase (truth.Constant v) = ofCalm true v
   truthOfCase (truth.Variable v) = ofCalm true (Truth (isOne (valueOf α (v .0))))
   truthOfCase (truth.Lookup A i) = lookedUpTruth ρ (declared bs places) α (A .0) (integerAt ρ bs places α values (i .0))
-  truthOfCase (truth.And a b) = connected ρ syntax.conj (truthAt ρ bs places α values (a .0)) (truthAt ρ bs places α values (b .0))
-  truthOfCase (truth.Or a b) = connected ρ syntax.disj (truthAt ρ bs places α values (a .0)) (truthAt ρ bs places α values (b .0))
-  truthOfCase (truth.Implies a b) = connected ρ syntax.implies (truthAt ρ bs places α values (a .0)) (truthAt ρ bs places α values (b .0))
-  truthOfCase (truth.Iff a b) = connected ρ syntax.iff (truthAt ρ bs places α values (a .0)) (truthAt ρ bs places α values (b .0))
+  truthOfCase (truth.Connected op a b) = connected ρ (connectiveOf op) (truthAt ρ bs places α values (a .0)) (truthAt ρ bs places α values (b .0))
   truthOfCase (truth.Not a) = opposed (truthAt ρ bs places α values (a .0))
   truthOfCase (truth.Equal a b) = compared ρ syntax.equal (integerAt ρ bs places α values (a .0)) (integerAt ρ bs places α values (b .0))
   truthOfCase (truth.Unequal a b) = compared ρ syntax.unequal (integerAt ρ bs places α values (a .0)) (integerAt ρ bs places α values (b .0))

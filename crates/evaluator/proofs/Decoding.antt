@@ -1,6 +1,6 @@
 -- The kinds that a decoded node lists, and that every other kind reads as 0, or as false.
 -- Assumes nothing.
-use mathlib.Core.Path.{_≡_, refl, sym, subst, _∙_}
+use mathlib.Core.Path.{_≡_, refl, sym, ap, subst, _∙_}
 use Prim.Native.Nat.{ℕ, zero, suc}
 use mathlib.Core.Bool.{Bool, false, not, _||_}
 use mathlib.Core.List.{List, [], _∷_}
@@ -8,8 +8,13 @@ use mathlib.Core.Option.{Option, none, some}
 use lib.Dec.{T, eqb}
 use lib.IntN.{ℤ, pos}
 use lib.ListN.{getD}
+use mir.Syntax.{w32}
+use mir.Val.{SFits, ofZ}
+use native.Mathlib.Omega.{arith}
+use Rattle.numbers.specs.Whole.{eqZ}
+use Rattle.numbers.proofs.Widths.{eq-bits}
 use Rattle.language.specs.Tables.{Row, truthRow}
-use Rattle.language.specs.Meaning.{Assignment, Setting}
+use Rattle.language.specs.Meaning.{Assignment, Setting, isOne}
 use Rattle.table.specs.Kinds.{Kind, kinds, kindOf}
 use Rattle.table.specs.Records.{kindAt, xAt, yAt}
 use Rattle.answers.specs.Sections.{rowOf}
@@ -358,3 +363,8 @@ other-leaf α σ k e =
       ),
     ))
     k (subst (λ b. T (not b)) (sym e) tt)
+
+-- A truth value kept as a number: it is true where the number's bits are those of 1.
+pub is-one : {r x : ℤ} → SFits w32 r → r ≡ x → eqb (ofZ w32 r) 1 ≡ isOne x
+unfolding isOne
+is-one {r} f e = eq-bits r (pos 1) f (record { sfits = omega arith }) ∙ ap (λ z. eqZ z (pos 1)) e

@@ -11,6 +11,9 @@ use Rattle.table.specs.declared.VariableNumber.{VariableNumber}
 use Rattle.table.specs.declared.SlotNumber.{SlotNumber}
 use Rattle.table.specs.declared.ArrayNumber.{ArrayNumber}
 use Rattle.table.specs.declared.NodeNumber.{NodeNumber}
+use Rattle.operations.specs.declared.integers.Arithmetic.the-variants as arithmetic
+use Rattle.operations.specs.declared.integers.Division.the-variants as division
+use Rattle.operations.specs.declared.truths.Connective.the-variants as connective
 use Rattle.operations.specs.declared.values.Value.the-variants.{Integer, Truth}
 use Rattle.evaluator.specs.declared.nodes.IntegerNode.{IntegerNode}
 use Rattle.evaluator.specs.declared.nodes.IntegerNode.the-variants as integer
@@ -39,13 +42,13 @@ unfoldable pub integerCase : Row → IntegerNode
 integerCase (constantRow z) = integer.Constant (Integer z)
 integerCase (variableRow v) = integer.Variable (variable v)
 integerCase (slotRow s) = integer.Slot (slot s)
-integerCase (arithRow syntax.plus a b) = integer.Add (node a) (node b)
-integerCase (arithRow syntax.minus a b) = integer.Subtract (node a) (node b)
-integerCase (arithRow syntax.times a b) = integer.Multiply (node a) (node b)
-integerCase (divideRow syntax.quot a b) = integer.Divide (node a) (node b)
-integerCase (divideRow syntax.rem a b) = integer.Modulo (node a) (node b)
-integerCase (arithRow syntax.least a b) = integer.Least (node a) (node b)
-integerCase (arithRow syntax.most a b) = integer.Greatest (node a) (node b)
+integerCase (arithRow syntax.plus a b) = integer.Calculated arithmetic.Plus (node a) (node b)
+integerCase (arithRow syntax.minus a b) = integer.Calculated arithmetic.Minus (node a) (node b)
+integerCase (arithRow syntax.times a b) = integer.Calculated arithmetic.Times (node a) (node b)
+integerCase (divideRow syntax.quot a b) = integer.Divided division.Quotient (node a) (node b)
+integerCase (divideRow syntax.rem a b) = integer.Divided division.Remainder (node a) (node b)
+integerCase (arithRow syntax.least a b) = integer.Calculated arithmetic.Least (node a) (node b)
+integerCase (arithRow syntax.most a b) = integer.Calculated arithmetic.Most (node a) (node b)
 integerCase (negateRow a) = integer.Negate (node a)
 integerCase (boolToIntRow a) = integer.BoolToInt (node a)
 integerCase (lookupRow A i) = integer.Lookup (array A) (node i)
@@ -63,10 +66,10 @@ unfoldable pub truthCase : Row → TruthNode
 truthCase (truthRow b) = truth.Constant (Truth b)
 truthCase (variableBRow v) = truth.Variable (variable v)
 truthCase (lookupBRow A i) = truth.Lookup (array A) (node i)
-truthCase (connectRow syntax.conj a b) = truth.And (node a) (node b)
-truthCase (connectRow syntax.disj a b) = truth.Or (node a) (node b)
-truthCase (connectRow syntax.implies a b) = truth.Implies (node a) (node b)
-truthCase (connectRow syntax.iff a b) = truth.Iff (node a) (node b)
+truthCase (connectRow syntax.conj a b) = truth.Connected connective.And (node a) (node b)
+truthCase (connectRow syntax.disj a b) = truth.Connected connective.Or (node a) (node b)
+truthCase (connectRow syntax.implies a b) = truth.Connected connective.Implies (node a) (node b)
+truthCase (connectRow syntax.iff a b) = truth.Connected connective.Iff (node a) (node b)
 truthCase (compareRow syntax.equal a b) = truth.Equal (node a) (node b)
 truthCase (compareRow syntax.unequal a b) = truth.Unequal (node a) (node b)
 truthCase (compareRow syntax.atMost a b) = truth.AtMost (node a) (node b)

@@ -10,6 +10,9 @@ use crate::records::kind_at;
 use crate::records::named_x;
 use crate::records::named_y;
 use crate::records::x_at;
+use operations::integers::Arithmetic;
+use operations::integers::Division;
+use operations::truths::Connective;
 use operations::values::Value;
 use table::ArrayNumber;
 use table::MOST_BYTES;
@@ -22,27 +25,20 @@ pub enum IntegerNode {
     Constant(Value),
     Variable(VariableNumber),
     Slot(SlotNumber),
-    Add(NodeNumber, NodeNumber),
-    Subtract(NodeNumber, NodeNumber),
-    Multiply(NodeNumber, NodeNumber),
-    Divide(NodeNumber, NodeNumber),
-    Modulo(NodeNumber, NodeNumber),
+    Calculated(Arithmetic, NodeNumber, NodeNumber),
+    Divided(Division, NodeNumber, NodeNumber),
     Negate(NodeNumber),
-    Least(NodeNumber, NodeNumber),
-    Greatest(NodeNumber, NodeNumber),
     BoolToInt(NodeNumber),
     Lookup(ArrayNumber, NodeNumber),
     Sum(SlotNumber, NodeNumber),
 }
 
+// Each comparison and each quantifier has a case of its own: a second choice in the walk would slow ranges down.
 pub enum TruthNode {
     Constant(Value),
     Variable(VariableNumber),
     Lookup(ArrayNumber, NodeNumber),
-    And(NodeNumber, NodeNumber),
-    Or(NodeNumber, NodeNumber),
-    Implies(NodeNumber, NodeNumber),
-    Iff(NodeNumber, NodeNumber),
+    Connected(Connective, NodeNumber, NodeNumber),
     Not(NodeNumber),
     Equal(NodeNumber, NodeNumber),
     Unequal(NodeNumber, NodeNumber),
@@ -75,14 +71,14 @@ pub fn integer_node(t: &[u8; MOST_BYTES], places: &[u32; 69], n: NodeNumber) -> 
         kind::CONSTANT => IntegerNode::Constant(Value::Integer(x_at(t, r))),
         kind::VARIABLE => IntegerNode::Variable(VariableNumber(named_x(t, r))),
         kind::SLOT => IntegerNode::Slot(SlotNumber(named_x(t, r))),
-        kind::ADD => IntegerNode::Add(node_x(t, r), node_y(t, r)),
-        kind::SUBTRACT => IntegerNode::Subtract(node_x(t, r), node_y(t, r)),
-        kind::MULTIPLY => IntegerNode::Multiply(node_x(t, r), node_y(t, r)),
-        kind::DIV => IntegerNode::Divide(node_x(t, r), node_y(t, r)),
-        kind::MOD => IntegerNode::Modulo(node_x(t, r), node_y(t, r)),
+        kind::ADD => IntegerNode::Calculated(Arithmetic::Plus, node_x(t, r), node_y(t, r)),
+        kind::SUBTRACT => IntegerNode::Calculated(Arithmetic::Minus, node_x(t, r), node_y(t, r)),
+        kind::MULTIPLY => IntegerNode::Calculated(Arithmetic::Times, node_x(t, r), node_y(t, r)),
+        kind::DIV => IntegerNode::Divided(Division::Quotient, node_x(t, r), node_y(t, r)),
+        kind::MOD => IntegerNode::Divided(Division::Remainder, node_x(t, r), node_y(t, r)),
         kind::NEGATE => IntegerNode::Negate(node_x(t, r)),
-        kind::MIN => IntegerNode::Least(node_x(t, r), node_y(t, r)),
-        kind::MAX => IntegerNode::Greatest(node_x(t, r), node_y(t, r)),
+        kind::MIN => IntegerNode::Calculated(Arithmetic::Least, node_x(t, r), node_y(t, r)),
+        kind::MAX => IntegerNode::Calculated(Arithmetic::Most, node_x(t, r), node_y(t, r)),
         kind::BOOL_TO_INT => IntegerNode::BoolToInt(node_x(t, r)),
         kind::LOOKUP => IntegerNode::Lookup(ArrayNumber(named_x(t, r)), node_y(t, r)),
         kind::SUM => IntegerNode::Sum(SlotNumber(named_x(t, r)), node_y(t, r)),
@@ -99,10 +95,10 @@ pub fn truth_node(t: &[u8; MOST_BYTES], places: &[u32; 69], n: NodeNumber) -> Tr
         kind::TRUTH_VALUE => TruthNode::Constant(Value::Truth(x_at(t, r) == 1)),
         kind::BOOLEAN_VARIABLE => TruthNode::Variable(VariableNumber(named_x(t, r))),
         kind::BOOLEAN_LOOKUP => TruthNode::Lookup(ArrayNumber(named_x(t, r)), node_y(t, r)),
-        kind::AND => TruthNode::And(node_x(t, r), node_y(t, r)),
-        kind::OR => TruthNode::Or(node_x(t, r), node_y(t, r)),
-        kind::IMPLIES => TruthNode::Implies(node_x(t, r), node_y(t, r)),
-        kind::IFF => TruthNode::Iff(node_x(t, r), node_y(t, r)),
+        kind::AND => TruthNode::Connected(Connective::And, node_x(t, r), node_y(t, r)),
+        kind::OR => TruthNode::Connected(Connective::Or, node_x(t, r), node_y(t, r)),
+        kind::IMPLIES => TruthNode::Connected(Connective::Implies, node_x(t, r), node_y(t, r)),
+        kind::IFF => TruthNode::Connected(Connective::Iff, node_x(t, r), node_y(t, r)),
         kind::NOT => TruthNode::Not(node_x(t, r)),
         kind::EQUAL => TruthNode::Equal(node_x(t, r), node_y(t, r)),
         kind::UNEQUAL => TruthNode::Unequal(node_x(t, r), node_y(t, r)),

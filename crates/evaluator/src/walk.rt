@@ -22,8 +22,6 @@ use crate::nodes::integer_node;
 use crate::nodes::truth_node;
 use crate::ranges::range_of;
 use crate::ranges::value_in;
-use operations::integers::Arithmetic;
-use operations::integers::Division;
 use operations::integers::calculate;
 use operations::integers::divide;
 use operations::integers::negate;
@@ -81,42 +79,17 @@ fn integer(
         IntegerNode::Constant(v) => limited_value(true, v),
         IntegerNode::Variable(v) => limited(true, variable(assignment, v) as i64),
         IntegerNode::Slot(s) => limited(true, slot(setting, s) as i64),
-        IntegerNode::Add(a, b) => {
+        IntegerNode::Calculated(op, a, b) => {
             let x = operand(t, places, assignment, setting, reading, a);
             let y = operand(t, places, assignment, setting, reading, b);
-            calculate(Arithmetic::Plus, x, y)
+            calculate(op, x, y)
         }
-        IntegerNode::Subtract(a, b) => {
+        IntegerNode::Divided(op, a, b) => {
             let x = operand(t, places, assignment, setting, reading, a);
             let y = operand(t, places, assignment, setting, reading, b);
-            calculate(Arithmetic::Minus, x, y)
-        }
-        IntegerNode::Multiply(a, b) => {
-            let x = operand(t, places, assignment, setting, reading, a);
-            let y = operand(t, places, assignment, setting, reading, b);
-            calculate(Arithmetic::Times, x, y)
-        }
-        IntegerNode::Divide(a, b) => {
-            let x = operand(t, places, assignment, setting, reading, a);
-            let y = operand(t, places, assignment, setting, reading, b);
-            divide(Division::Quotient, x, y)
-        }
-        IntegerNode::Modulo(a, b) => {
-            let x = operand(t, places, assignment, setting, reading, a);
-            let y = operand(t, places, assignment, setting, reading, b);
-            divide(Division::Remainder, x, y)
+            divide(op, x, y)
         }
         IntegerNode::Negate(a) => negate(operand(t, places, assignment, setting, reading, a)),
-        IntegerNode::Least(a, b) => {
-            let x = operand(t, places, assignment, setting, reading, a);
-            let y = operand(t, places, assignment, setting, reading, b);
-            calculate(Arithmetic::Least, x, y)
-        }
-        IntegerNode::Greatest(a, b) => {
-            let x = operand(t, places, assignment, setting, reading, a);
-            let y = operand(t, places, assignment, setting, reading, b);
-            calculate(Arithmetic::Most, x, y)
-        }
         IntegerNode::BoolToInt(a) => number(truth(t, places, assignment, setting, reading, a)),
         IntegerNode::Lookup(a, i) => {
             let x = operand(t, places, assignment, setting, reading, i);
@@ -148,25 +121,10 @@ fn truth(
             let x = operand(t, places, assignment, setting, reading, i);
             looked_up_truth(t, places, assignment, reading, a, x)
         }
-        TruthNode::And(a, b) => {
+        TruthNode::Connected(op, a, b) => {
             let x = truth(t, places, assignment, setting, reading, a);
             let y = truth(t, places, assignment, setting, reading, b);
-            connect(reading, Connective::And, x, y)
-        }
-        TruthNode::Or(a, b) => {
-            let x = truth(t, places, assignment, setting, reading, a);
-            let y = truth(t, places, assignment, setting, reading, b);
-            connect(reading, Connective::Or, x, y)
-        }
-        TruthNode::Implies(a, b) => {
-            let x = truth(t, places, assignment, setting, reading, a);
-            let y = truth(t, places, assignment, setting, reading, b);
-            connect(reading, Connective::Implies, x, y)
-        }
-        TruthNode::Iff(a, b) => {
-            let x = truth(t, places, assignment, setting, reading, a);
-            let y = truth(t, places, assignment, setting, reading, b);
-            connect(reading, Connective::Iff, x, y)
+            connect(reading, op, x, y)
         }
         TruthNode::Not(a) => negation(truth(t, places, assignment, setting, reading, a)),
         TruthNode::Equal(a, b) => {

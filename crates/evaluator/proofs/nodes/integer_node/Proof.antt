@@ -1,6 +1,6 @@
 -- `evaluator::nodes::integer_node` meets its contract, by the kind.
 -- Assumes nothing.
-use mathlib.Core.Path.{_≡_, refl, sym, ap, _∙_}
+use mathlib.Core.Path.{_≡_, refl, sym, ap, ap₂, _∙_}
 use Prim.Native.Nat.{ℕ, _+_}
 use mathlib.Core.Bool.{false}
 use lib.IntN.{pos, natAbs}
@@ -8,16 +8,14 @@ use mir.Facts.{toZ-ofZ}
 use borrow.Author.Needs.{needs, sfits-of}
 use borrow.Author.Tests.{ne-eqb}
 use Rattle.table.specs.Kinds.{kinds, kindOf}
+use Rattle.operations.specs.declared.integers.Arithmetic.the-variants as arithmetic
+use Rattle.operations.specs.declared.integers.Division.the-variants as division
 use Rattle.operations.specs.declared.values.Value.the-variants.{Integer}
 use Rattle.evaluator.specs.declared.nodes.IntegerNode.the-variants as integer
 use Rattle.evaluator.specs.Nodes.{nodesFrom, node, variable, slot, array, integerCase}
 use Rattle.evaluator.proofs.Decoding.{rowIn, of-kind, integerKind, other-integer}
 use Rattle.evaluator.proofs.nodes.integer_node.Statement.{statement}
 use Rattle.evaluator.proofs.nodes.integer_node.Tie as tie
-
--- two parts, each equal
-ap2 : {A B C : Type 0} (F : A → B → C) {a a′ : A} {b b′ : B} → a ≡ a′ → b ≡ b′ → F a b ≡ F a′ b′
-ap2 F p q = rw (p, q)
 
 none-of : (k : ℕ) → (k ≡ 1 → ⊥) → (k ≡ 3 → ⊥) → (k ≡ 5 → ⊥) → (k ≡ 6 → ⊥) → (k ≡ 7 → ⊥) → (k ≡ 8 → ⊥) → (k ≡ 9 → ⊥) → (k ≡ 10 → ⊥) → (k ≡ 11 → ⊥) → (k ≡ 12 → ⊥) → (k ≡ 13 → ⊥) → (k ≡ 14 → ⊥) → (k ≡ 15 → ⊥) → (k ≡ 17 → ⊥) → integerKind k ≡ false
 unfolding integerKind
@@ -127,36 +125,36 @@ returns-4 : tie.Need-returns-4
 unfolding kindOf kinds integerCase rowIn
 returns-4 c =
     let s = c .before .before .before .before .before .before .args in
-    ap2 (λ a b. integer.Add a b) (c .before .node-x .ensures) (c .node-y .ensures)
-    ∙ of-kind integerCase (λ x y. integer.Add (node (natAbs x)) (node (natAbs y))) (s .t .now) (nodesFrom (s .places .now) + s .n .0) 6 (sym (c .before .before .before .kind-at .ensures) ∙ c .before .before .match .keys4) (λ x y. refl)
+    ap₂ (λ a b. integer.Calculated arithmetic.Plus a b) (c .before .node-x .ensures) (c .node-y .ensures)
+    ∙ of-kind integerCase (λ x y. integer.Calculated arithmetic.Plus (node (natAbs x)) (node (natAbs y))) (s .t .now) (nodesFrom (s .places .now) + s .n .0) 6 (sym (c .before .before .before .kind-at .ensures) ∙ c .before .before .match .keys4) (λ x y. refl)
 
 returns-5 : tie.Need-returns-5
 unfolding kindOf kinds integerCase rowIn
 returns-5 c =
     let s = c .before .before .before .before .before .before .args in
-    ap2 (λ a b. integer.Subtract a b) (c .before .node-x2 .ensures) (c .node-y2 .ensures)
-    ∙ of-kind integerCase (λ x y. integer.Subtract (node (natAbs x)) (node (natAbs y))) (s .t .now) (nodesFrom (s .places .now) + s .n .0) 7 (sym (c .before .before .before .kind-at .ensures) ∙ c .before .before .match .keys5) (λ x y. refl)
+    ap₂ (λ a b. integer.Calculated arithmetic.Minus a b) (c .before .node-x2 .ensures) (c .node-y2 .ensures)
+    ∙ of-kind integerCase (λ x y. integer.Calculated arithmetic.Minus (node (natAbs x)) (node (natAbs y))) (s .t .now) (nodesFrom (s .places .now) + s .n .0) 7 (sym (c .before .before .before .kind-at .ensures) ∙ c .before .before .match .keys5) (λ x y. refl)
 
 returns-6 : tie.Need-returns-6
 unfolding kindOf kinds integerCase rowIn
 returns-6 c =
     let s = c .before .before .before .before .before .before .args in
-    ap2 (λ a b. integer.Multiply a b) (c .before .node-x3 .ensures) (c .node-y3 .ensures)
-    ∙ of-kind integerCase (λ x y. integer.Multiply (node (natAbs x)) (node (natAbs y))) (s .t .now) (nodesFrom (s .places .now) + s .n .0) 8 (sym (c .before .before .before .kind-at .ensures) ∙ c .before .before .match .keys6) (λ x y. refl)
+    ap₂ (λ a b. integer.Calculated arithmetic.Times a b) (c .before .node-x3 .ensures) (c .node-y3 .ensures)
+    ∙ of-kind integerCase (λ x y. integer.Calculated arithmetic.Times (node (natAbs x)) (node (natAbs y))) (s .t .now) (nodesFrom (s .places .now) + s .n .0) 8 (sym (c .before .before .before .kind-at .ensures) ∙ c .before .before .match .keys6) (λ x y. refl)
 
 returns-7 : tie.Need-returns-7
 unfolding kindOf kinds integerCase rowIn
 returns-7 c =
     let s = c .before .before .before .before .before .before .args in
-    ap2 (λ a b. integer.Divide a b) (c .before .node-x4 .ensures) (c .node-y4 .ensures)
-    ∙ of-kind integerCase (λ x y. integer.Divide (node (natAbs x)) (node (natAbs y))) (s .t .now) (nodesFrom (s .places .now) + s .n .0) 9 (sym (c .before .before .before .kind-at .ensures) ∙ c .before .before .match .keys7) (λ x y. refl)
+    ap₂ (λ a b. integer.Divided division.Quotient a b) (c .before .node-x4 .ensures) (c .node-y4 .ensures)
+    ∙ of-kind integerCase (λ x y. integer.Divided division.Quotient (node (natAbs x)) (node (natAbs y))) (s .t .now) (nodesFrom (s .places .now) + s .n .0) 9 (sym (c .before .before .before .kind-at .ensures) ∙ c .before .before .match .keys7) (λ x y. refl)
 
 returns-8 : tie.Need-returns-8
 unfolding kindOf kinds integerCase rowIn
 returns-8 c =
     let s = c .before .before .before .before .before .before .args in
-    ap2 (λ a b. integer.Modulo a b) (c .before .node-x5 .ensures) (c .node-y5 .ensures)
-    ∙ of-kind integerCase (λ x y. integer.Modulo (node (natAbs x)) (node (natAbs y))) (s .t .now) (nodesFrom (s .places .now) + s .n .0) 10 (sym (c .before .before .before .kind-at .ensures) ∙ c .before .before .match .keys8) (λ x y. refl)
+    ap₂ (λ a b. integer.Divided division.Remainder a b) (c .before .node-x5 .ensures) (c .node-y5 .ensures)
+    ∙ of-kind integerCase (λ x y. integer.Divided division.Remainder (node (natAbs x)) (node (natAbs y))) (s .t .now) (nodesFrom (s .places .now) + s .n .0) 10 (sym (c .before .before .before .kind-at .ensures) ∙ c .before .before .match .keys8) (λ x y. refl)
 
 returns-9 : tie.Need-returns-9
 unfolding kindOf kinds integerCase rowIn
@@ -169,15 +167,15 @@ returns-10 : tie.Need-returns-10
 unfolding kindOf kinds integerCase rowIn
 returns-10 c =
     let s = c .before .before .before .before .before .before .args in
-    ap2 (λ a b. integer.Least a b) (c .before .node-x7 .ensures) (c .node-y6 .ensures)
-    ∙ of-kind integerCase (λ x y. integer.Least (node (natAbs x)) (node (natAbs y))) (s .t .now) (nodesFrom (s .places .now) + s .n .0) 12 (sym (c .before .before .before .kind-at .ensures) ∙ c .before .before .match .keys10) (λ x y. refl)
+    ap₂ (λ a b. integer.Calculated arithmetic.Least a b) (c .before .node-x7 .ensures) (c .node-y6 .ensures)
+    ∙ of-kind integerCase (λ x y. integer.Calculated arithmetic.Least (node (natAbs x)) (node (natAbs y))) (s .t .now) (nodesFrom (s .places .now) + s .n .0) 12 (sym (c .before .before .before .kind-at .ensures) ∙ c .before .before .match .keys10) (λ x y. refl)
 
 returns-11 : tie.Need-returns-11
 unfolding kindOf kinds integerCase rowIn
 returns-11 c =
     let s = c .before .before .before .before .before .before .args in
-    ap2 (λ a b. integer.Greatest a b) (c .before .node-x8 .ensures) (c .node-y7 .ensures)
-    ∙ of-kind integerCase (λ x y. integer.Greatest (node (natAbs x)) (node (natAbs y))) (s .t .now) (nodesFrom (s .places .now) + s .n .0) 13 (sym (c .before .before .before .kind-at .ensures) ∙ c .before .before .match .keys11) (λ x y. refl)
+    ap₂ (λ a b. integer.Calculated arithmetic.Most a b) (c .before .node-x8 .ensures) (c .node-y7 .ensures)
+    ∙ of-kind integerCase (λ x y. integer.Calculated arithmetic.Most (node (natAbs x)) (node (natAbs y))) (s .t .now) (nodesFrom (s .places .now) + s .n .0) 13 (sym (c .before .before .before .kind-at .ensures) ∙ c .before .before .match .keys11) (λ x y. refl)
 
 returns-12 : tie.Need-returns-12
 unfolding kindOf kinds integerCase rowIn
@@ -190,14 +188,14 @@ returns-13 : tie.Need-returns-13
 unfolding kindOf kinds integerCase rowIn
 returns-13 c =
     let s = c .before .before .before .before .before .before .args in
-    ap2 (λ a b. integer.Lookup (array a) b) (c .before .named-x3 .ensures) (c .node-y8 .ensures)
+    ap₂ (λ a b. integer.Lookup (array a) b) (c .before .named-x3 .ensures) (c .node-y8 .ensures)
     ∙ of-kind integerCase (λ x y. integer.Lookup (array (natAbs x)) (node (natAbs y))) (s .t .now) (nodesFrom (s .places .now) + s .n .0) 15 (sym (c .before .before .before .kind-at .ensures) ∙ c .before .before .match .keys13) (λ x y. refl)
 
 returns-14 : tie.Need-returns-14
 unfolding kindOf kinds integerCase rowIn
 returns-14 c =
     let s = c .before .before .before .before .before .before .args in
-    ap2 (λ a b. integer.Sum (slot a) b) (c .before .named-x4 .ensures) (c .node-y9 .ensures)
+    ap₂ (λ a b. integer.Sum (slot a) b) (c .before .named-x4 .ensures) (c .node-y9 .ensures)
     ∙ of-kind integerCase (λ x y. integer.Sum (slot (natAbs x)) (node (natAbs y))) (s .t .now) (nodesFrom (s .places .now) + s .n .0) 17 (sym (c .before .before .before .kind-at .ensures) ∙ c .before .before .match .keys14) (λ x y. refl)
 
 returns-15 : tie.Need-returns-15

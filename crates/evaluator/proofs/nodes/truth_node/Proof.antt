@@ -1,34 +1,20 @@
 -- `evaluator::nodes::truth_node` meets its contract, by the kind.
 -- Assumes nothing.
-use mathlib.Core.Path.{_≡_, refl, sym, ap, _∙_}
+use mathlib.Core.Path.{_≡_, refl, sym, ap, ap₂, _∙_}
 use Prim.Native.Nat.{ℕ, _+_}
 use mathlib.Core.Bool.{false}
-use lib.IntN.{ℤ, pos, natAbs}
+use lib.IntN.{natAbs}
 use borrow.Author.Needs.{needs, sfits-of}
 use borrow.Author.Tests.{ne-eqb}
-use native.Mathlib.Omega.{arith}
-use lib.Dec.{eqb}
-use mir.Syntax.{w32}
-use mir.Val.{SFits, ofZ}
-use Rattle.numbers.specs.Whole.{eqZ}
-use Rattle.numbers.proofs.Widths.{eq-bits}
 use Rattle.language.specs.Meaning.{isOne}
 use Rattle.table.specs.Kinds.{kinds, kindOf}
+use Rattle.operations.specs.declared.truths.Connective.the-variants as connective
 use Rattle.operations.specs.declared.values.Value.the-variants.{Truth}
 use Rattle.evaluator.specs.declared.nodes.TruthNode.the-variants as truth
 use Rattle.evaluator.specs.Nodes.{nodesFrom, node, variable, slot, array, truthCase}
-use Rattle.evaluator.proofs.Decoding.{rowIn, of-kind, truthKind, other-truth}
+use Rattle.evaluator.proofs.Decoding.{rowIn, of-kind, truthKind, other-truth, is-one}
 use Rattle.evaluator.proofs.nodes.truth_node.Statement.{statement}
 use Rattle.evaluator.proofs.nodes.truth_node.Tie as tie
-
--- two parts, each equal
-ap2 : {A B C : Type 0} (F : A → B → C) {a a′ : A} {b b′ : B} → a ≡ a′ → b ≡ b′ → F a b ≡ F a′ b′
-ap2 F p q = rw (p, q)
-
--- 1 by its bits
-is-one : {r x : ℤ} → SFits w32 r → r ≡ x → eqb (ofZ w32 r) 1 ≡ isOne x
-unfolding isOne
-is-one {r} f e = eq-bits r (pos 1) f (record { sfits = omega arith }) ∙ ap (λ z. eqZ z (pos 1)) e
 
 none-of : (k : ℕ) → (k ≡ 2 → ⊥) → (k ≡ 4 → ⊥) → (k ≡ 16 → ⊥) → (k ≡ 20 → ⊥) → (k ≡ 21 → ⊥) → (k ≡ 22 → ⊥) → (k ≡ 23 → ⊥) → (k ≡ 24 → ⊥) → (k ≡ 25 → ⊥) → (k ≡ 26 → ⊥) → (k ≡ 27 → ⊥) → (k ≡ 28 → ⊥) → (k ≡ 29 → ⊥) → (k ≡ 30 → ⊥) → truthKind k ≡ false
 unfolding truthKind
@@ -137,36 +123,36 @@ returns-3 : tie.Need-returns-3
 unfolding kindOf kinds truthCase rowIn
 returns-3 c =
     let s = c .before .before .before .before .before .before .args in
-    ap2 (λ a b. truth.Lookup (array a) b) (c .before .named-x2 .ensures) (c .node-y .ensures)
+    ap₂ (λ a b. truth.Lookup (array a) b) (c .before .named-x2 .ensures) (c .node-y .ensures)
     ∙ of-kind truthCase (λ x y. truth.Lookup (array (natAbs x)) (node (natAbs y))) (s .t .now) (nodesFrom (s .places .now) + s .n .0) 16 (sym (c .before .before .before .kind-at .ensures) ∙ c .before .before .match .keys3) (λ x y. refl)
 
 returns-4 : tie.Need-returns-4
 unfolding kindOf kinds truthCase rowIn
 returns-4 c =
     let s = c .before .before .before .before .before .before .args in
-    ap2 (λ a b. truth.And a b) (c .before .node-x .ensures) (c .node-y2 .ensures)
-    ∙ of-kind truthCase (λ x y. truth.And (node (natAbs x)) (node (natAbs y))) (s .t .now) (nodesFrom (s .places .now) + s .n .0) 20 (sym (c .before .before .before .kind-at .ensures) ∙ c .before .before .match .keys4) (λ x y. refl)
+    ap₂ (λ a b. truth.Connected connective.And a b) (c .before .node-x .ensures) (c .node-y2 .ensures)
+    ∙ of-kind truthCase (λ x y. truth.Connected connective.And (node (natAbs x)) (node (natAbs y))) (s .t .now) (nodesFrom (s .places .now) + s .n .0) 20 (sym (c .before .before .before .kind-at .ensures) ∙ c .before .before .match .keys4) (λ x y. refl)
 
 returns-5 : tie.Need-returns-5
 unfolding kindOf kinds truthCase rowIn
 returns-5 c =
     let s = c .before .before .before .before .before .before .args in
-    ap2 (λ a b. truth.Or a b) (c .before .node-x2 .ensures) (c .node-y3 .ensures)
-    ∙ of-kind truthCase (λ x y. truth.Or (node (natAbs x)) (node (natAbs y))) (s .t .now) (nodesFrom (s .places .now) + s .n .0) 21 (sym (c .before .before .before .kind-at .ensures) ∙ c .before .before .match .keys5) (λ x y. refl)
+    ap₂ (λ a b. truth.Connected connective.Or a b) (c .before .node-x2 .ensures) (c .node-y3 .ensures)
+    ∙ of-kind truthCase (λ x y. truth.Connected connective.Or (node (natAbs x)) (node (natAbs y))) (s .t .now) (nodesFrom (s .places .now) + s .n .0) 21 (sym (c .before .before .before .kind-at .ensures) ∙ c .before .before .match .keys5) (λ x y. refl)
 
 returns-6 : tie.Need-returns-6
 unfolding kindOf kinds truthCase rowIn
 returns-6 c =
     let s = c .before .before .before .before .before .before .args in
-    ap2 (λ a b. truth.Implies a b) (c .before .node-x3 .ensures) (c .node-y4 .ensures)
-    ∙ of-kind truthCase (λ x y. truth.Implies (node (natAbs x)) (node (natAbs y))) (s .t .now) (nodesFrom (s .places .now) + s .n .0) 22 (sym (c .before .before .before .kind-at .ensures) ∙ c .before .before .match .keys6) (λ x y. refl)
+    ap₂ (λ a b. truth.Connected connective.Implies a b) (c .before .node-x3 .ensures) (c .node-y4 .ensures)
+    ∙ of-kind truthCase (λ x y. truth.Connected connective.Implies (node (natAbs x)) (node (natAbs y))) (s .t .now) (nodesFrom (s .places .now) + s .n .0) 22 (sym (c .before .before .before .kind-at .ensures) ∙ c .before .before .match .keys6) (λ x y. refl)
 
 returns-7 : tie.Need-returns-7
 unfolding kindOf kinds truthCase rowIn
 returns-7 c =
     let s = c .before .before .before .before .before .before .args in
-    ap2 (λ a b. truth.Iff a b) (c .before .node-x4 .ensures) (c .node-y5 .ensures)
-    ∙ of-kind truthCase (λ x y. truth.Iff (node (natAbs x)) (node (natAbs y))) (s .t .now) (nodesFrom (s .places .now) + s .n .0) 23 (sym (c .before .before .before .kind-at .ensures) ∙ c .before .before .match .keys7) (λ x y. refl)
+    ap₂ (λ a b. truth.Connected connective.Iff a b) (c .before .node-x4 .ensures) (c .node-y5 .ensures)
+    ∙ of-kind truthCase (λ x y. truth.Connected connective.Iff (node (natAbs x)) (node (natAbs y))) (s .t .now) (nodesFrom (s .places .now) + s .n .0) 23 (sym (c .before .before .before .kind-at .ensures) ∙ c .before .before .match .keys7) (λ x y. refl)
 
 returns-8 : tie.Need-returns-8
 unfolding kindOf kinds truthCase rowIn
@@ -179,42 +165,42 @@ returns-9 : tie.Need-returns-9
 unfolding kindOf kinds truthCase rowIn
 returns-9 c =
     let s = c .before .before .before .before .before .before .args in
-    ap2 (λ a b. truth.Equal a b) (c .before .node-x6 .ensures) (c .node-y6 .ensures)
+    ap₂ (λ a b. truth.Equal a b) (c .before .node-x6 .ensures) (c .node-y6 .ensures)
     ∙ of-kind truthCase (λ x y. truth.Equal (node (natAbs x)) (node (natAbs y))) (s .t .now) (nodesFrom (s .places .now) + s .n .0) 25 (sym (c .before .before .before .kind-at .ensures) ∙ c .before .before .match .keys9) (λ x y. refl)
 
 returns-10 : tie.Need-returns-10
 unfolding kindOf kinds truthCase rowIn
 returns-10 c =
     let s = c .before .before .before .before .before .before .args in
-    ap2 (λ a b. truth.Unequal a b) (c .before .node-x7 .ensures) (c .node-y7 .ensures)
+    ap₂ (λ a b. truth.Unequal a b) (c .before .node-x7 .ensures) (c .node-y7 .ensures)
     ∙ of-kind truthCase (λ x y. truth.Unequal (node (natAbs x)) (node (natAbs y))) (s .t .now) (nodesFrom (s .places .now) + s .n .0) 26 (sym (c .before .before .before .kind-at .ensures) ∙ c .before .before .match .keys10) (λ x y. refl)
 
 returns-11 : tie.Need-returns-11
 unfolding kindOf kinds truthCase rowIn
 returns-11 c =
     let s = c .before .before .before .before .before .before .args in
-    ap2 (λ a b. truth.AtMost a b) (c .before .node-x8 .ensures) (c .node-y8 .ensures)
+    ap₂ (λ a b. truth.AtMost a b) (c .before .node-x8 .ensures) (c .node-y8 .ensures)
     ∙ of-kind truthCase (λ x y. truth.AtMost (node (natAbs x)) (node (natAbs y))) (s .t .now) (nodesFrom (s .places .now) + s .n .0) 27 (sym (c .before .before .before .kind-at .ensures) ∙ c .before .before .match .keys11) (λ x y. refl)
 
 returns-12 : tie.Need-returns-12
 unfolding kindOf kinds truthCase rowIn
 returns-12 c =
     let s = c .before .before .before .before .before .before .args in
-    ap2 (λ a b. truth.Below a b) (c .before .node-x9 .ensures) (c .node-y9 .ensures)
+    ap₂ (λ a b. truth.Below a b) (c .before .node-x9 .ensures) (c .node-y9 .ensures)
     ∙ of-kind truthCase (λ x y. truth.Below (node (natAbs x)) (node (natAbs y))) (s .t .now) (nodesFrom (s .places .now) + s .n .0) 28 (sym (c .before .before .before .kind-at .ensures) ∙ c .before .before .match .keys12) (λ x y. refl)
 
 returns-13 : tie.Need-returns-13
 unfolding kindOf kinds truthCase rowIn
 returns-13 c =
     let s = c .before .before .before .before .before .before .args in
-    ap2 (λ a b. truth.Exists (slot a) b) (c .before .named-x3 .ensures) (c .node-y10 .ensures)
+    ap₂ (λ a b. truth.Exists (slot a) b) (c .before .named-x3 .ensures) (c .node-y10 .ensures)
     ∙ of-kind truthCase (λ x y. truth.Exists (slot (natAbs x)) (node (natAbs y))) (s .t .now) (nodesFrom (s .places .now) + s .n .0) 29 (sym (c .before .before .before .kind-at .ensures) ∙ c .before .before .match .keys13) (λ x y. refl)
 
 returns-14 : tie.Need-returns-14
 unfolding kindOf kinds truthCase rowIn
 returns-14 c =
     let s = c .before .before .before .before .before .before .args in
-    ap2 (λ a b. truth.Forall (slot a) b) (c .before .named-x4 .ensures) (c .node-y11 .ensures)
+    ap₂ (λ a b. truth.Forall (slot a) b) (c .before .named-x4 .ensures) (c .node-y11 .ensures)
     ∙ of-kind truthCase (λ x y. truth.Forall (slot (natAbs x)) (node (natAbs y))) (s .t .now) (nodesFrom (s .places .now) + s .n .0) 30 (sym (c .before .before .before .kind-at .ensures) ∙ c .before .before .match .keys14) (λ x y. refl)
 
 returns-15 : tie.Need-returns-15

@@ -9,24 +9,22 @@ use lib.ListN.{length, set, length-set}
 use Rattle.operations.specs.Sums.{totalOf}
 use mathlib.Core.Bool.{true}
 use mathlib.Core.Option.{some}
-use lib.Dec.{eqb}
 use lib.IntN.{ℤ, pos, natAbs}
 use mir.Syntax.{w32}
-use mir.Val.{SFits, toZ, ofZ}
-use Rattle.numbers.specs.Whole.{eqZ}
-use Rattle.numbers.proofs.Widths.{widened, eq-bits}
+use mir.Val.{toZ, ofZ}
+use Rattle.numbers.proofs.Widths.{widened}
 use Rattle.language.specs.Syntax as syntax
 use Rattle.language.specs.Readings as readings
 use Rattle.language.specs.Readings.{arithmetic, division}
-use Rattle.language.specs.Meaning.{isOne}
 use Rattle.operations.specs.declared.values.Walked.{Walked}
 use Rattle.operations.specs.declared.sums.Total.{Total}
 use Rattle.operations.specs.declared.values.Value.the-variants.{Truth}
 use Rattle.reading.specs.Readings.{meant}
 use Rattle.operations.specs.Values.{ofCalm}
-use Rattle.operations.specs.Integers.{integers, negated, numbered}
-use Rattle.operations.specs.Truths.{compared, connected, opposed}
+use Rattle.operations.specs.Integers.{arithmeticOf, divisionOf, integers, negated, numbered}
+use Rattle.operations.specs.Truths.{connectiveOf, compared, connected, opposed}
 use Rattle.evaluator.specs.Walks.{Ready, quantifierOf, declared, integerAt, truthAt, lookedUp, lookedUpTruth}
+use Rattle.evaluator.proofs.Decoding.{is-one}
 use Rattle.evaluator.proofs.Binding.{totalTo, total-none, jointTo, joint-none}
 use Rattle.evaluator.proofs.Turning.{slot-in, few-turns, value-fits, value-is, restored, sum-turn, sum-done, joint-turn, joint-done}
 use Rattle.evaluator.proofs.Stepping.{ready, to-operand, to-node, same-node, node-in, integer-smaller, truth-smaller, integer-case, truth-case, leaf-case, of-one, of-two, of-leaf}
@@ -74,11 +72,6 @@ use Rattle.evaluator.proofs.walk.empty.Reads as empty-reads
 use Rattle.evaluator.proofs.walk.joins.Reads as joins-reads
 use Rattle.evaluator.proofs.walk.+integer+operand+quantified+sum+truth.{statement}
 use Rattle.evaluator.proofs.walk.+integer+operand+quantified+sum+truth.Tie.{close}
-
--- 1 by its bits
-is-one : {r x : ℤ} → SFits w32 r → r ≡ x → eqb (ofZ w32 r) 1 ≡ isOne x
-unfolding isOne
-is-one {r} f e = eq-bits r (pos 1) f (record { sfits = omega arith }) ∙ ap (λ z. eqZ z (pos 1)) e
 
 -- a sum over the first k values of a slot, and the slots' values as they were
 record Summed (ρ : readings.Reading) (bs places : List ℕ) (α : List ℤ) (values : List ℤ) (s a count k : ℕ) (now : List ℤ) (total : Total) : Type 0 where
@@ -207,163 +200,73 @@ integer-cast-limited-2 t c = widened {z = c .slot .result} (sfits-of (c .slot .o
 integer-limited-requires-2 : (t : ℕ) → integer-lts.Need-limited-requires-2 (integer-calls t) (integer-at t) integer.Post
 integer-limited-requires-2 t c κs = tt
 
-integer-enum-known-a : (t : ℕ) → integer-lts.Need-enum-known-a (integer-calls t) (integer-at t) integer.Post
-integer-enum-known-a t c = search needs
+integer-enum-known-op : (t : ℕ) → integer-lts.Need-enum-known-op (integer-calls t) (integer-at t) integer.Post
+integer-enum-known-op t c = search needs
 
 integer-operand-requires : (t : ℕ) → integer-lts.Need-operand-requires (integer-calls t) (integer-at t) integer.Post
 integer-operand-requires t c κs =
     let s = c .before .before .before .before .before in
-    let b = integer-smaller (s .pre .1) (c .before .before .before .before .integer-node .ensures) (c .before .before .a .given .1) in
+    let b = integer-smaller (s .pre .1) (c .before .before .before .before .integer-node .ensures) (c .before .before .op .given .1) in
     (to-operand (s .pre .0) (b .0), ready (s .pre .1) (b .0) refl)
 
 integer-operand-requires-2 : (t : ℕ) → integer-lts.Need-operand-requires-2 (integer-calls t) (integer-at t) integer.Post
 integer-operand-requires-2 t c κs =
     let s = c .before .before .before .before .before .before .before in
-    let b = integer-smaller (s .pre .1) (c .before .before .before .before .before .before .integer-node .ensures) (c .before .before .before .before .a .given .1) in
+    let b = integer-smaller (s .pre .1) (c .before .before .before .before .before .before .integer-node .ensures) (c .before .before .before .before .op .given .1) in
     (to-operand (s .pre .0) (b .1), ready (s .pre .1) (b .1) (c .before .operand .ensures .1))
 
 integer-calculate-requires : (t : ℕ) → integer-lts.Need-calculate-requires (integer-calls t) (integer-at t) integer.Post
 integer-calculate-requires t c κs = tt
 
-integer-enum-known-a-2 : (t : ℕ) → integer-lts.Need-enum-known-a-2 (integer-calls t) (integer-at t) integer.Post
-integer-enum-known-a-2 t c = search needs
+integer-enum-known-op-2 : (t : ℕ) → integer-lts.Need-enum-known-op-2 (integer-calls t) (integer-at t) integer.Post
+integer-enum-known-op-2 t c = search needs
 
 integer-operand-requires-3 : (t : ℕ) → integer-lts.Need-operand-requires-3 (integer-calls t) (integer-at t) integer.Post
 integer-operand-requires-3 t c κs =
     let s = c .before .before .before .before .before in
-    let b = integer-smaller (s .pre .1) (c .before .before .before .before .integer-node .ensures) (c .before .before .a2 .given .1) in
+    let b = integer-smaller (s .pre .1) (c .before .before .before .before .integer-node .ensures) (c .before .before .op2 .given .1) in
     (to-operand (s .pre .0) (b .0), ready (s .pre .1) (b .0) refl)
 
 integer-operand-requires-4 : (t : ℕ) → integer-lts.Need-operand-requires-4 (integer-calls t) (integer-at t) integer.Post
 integer-operand-requires-4 t c κs =
     let s = c .before .before .before .before .before .before .before in
-    let b = integer-smaller (s .pre .1) (c .before .before .before .before .before .before .integer-node .ensures) (c .before .before .before .before .a2 .given .1) in
+    let b = integer-smaller (s .pre .1) (c .before .before .before .before .before .before .integer-node .ensures) (c .before .before .before .before .op2 .given .1) in
     (to-operand (s .pre .0) (b .1), ready (s .pre .1) (b .1) (c .before .operand3 .ensures .1))
-
-integer-calculate-requires-2 : (t : ℕ) → integer-lts.Need-calculate-requires-2 (integer-calls t) (integer-at t) integer.Post
-integer-calculate-requires-2 t c κs = tt
-
-integer-enum-known-a-3 : (t : ℕ) → integer-lts.Need-enum-known-a-3 (integer-calls t) (integer-at t) integer.Post
-integer-enum-known-a-3 t c = search needs
-
-integer-operand-requires-5 : (t : ℕ) → integer-lts.Need-operand-requires-5 (integer-calls t) (integer-at t) integer.Post
-integer-operand-requires-5 t c κs =
-    let s = c .before .before .before .before .before in
-    let b = integer-smaller (s .pre .1) (c .before .before .before .before .integer-node .ensures) (c .before .before .a3 .given .1) in
-    (to-operand (s .pre .0) (b .0), ready (s .pre .1) (b .0) refl)
-
-integer-operand-requires-6 : (t : ℕ) → integer-lts.Need-operand-requires-6 (integer-calls t) (integer-at t) integer.Post
-integer-operand-requires-6 t c κs =
-    let s = c .before .before .before .before .before .before .before in
-    let b = integer-smaller (s .pre .1) (c .before .before .before .before .before .before .integer-node .ensures) (c .before .before .before .before .a3 .given .1) in
-    (to-operand (s .pre .0) (b .1), ready (s .pre .1) (b .1) (c .before .operand5 .ensures .1))
-
-integer-calculate-requires-3 : (t : ℕ) → integer-lts.Need-calculate-requires-3 (integer-calls t) (integer-at t) integer.Post
-integer-calculate-requires-3 t c κs = tt
-
-integer-enum-known-a-4 : (t : ℕ) → integer-lts.Need-enum-known-a-4 (integer-calls t) (integer-at t) integer.Post
-integer-enum-known-a-4 t c = search needs
-
-integer-operand-requires-7 : (t : ℕ) → integer-lts.Need-operand-requires-7 (integer-calls t) (integer-at t) integer.Post
-integer-operand-requires-7 t c κs =
-    let s = c .before .before .before .before .before in
-    let b = integer-smaller (s .pre .1) (c .before .before .before .before .integer-node .ensures) (c .before .before .a4 .given .1) in
-    (to-operand (s .pre .0) (b .0), ready (s .pre .1) (b .0) refl)
-
-integer-operand-requires-8 : (t : ℕ) → integer-lts.Need-operand-requires-8 (integer-calls t) (integer-at t) integer.Post
-integer-operand-requires-8 t c κs =
-    let s = c .before .before .before .before .before .before .before in
-    let b = integer-smaller (s .pre .1) (c .before .before .before .before .before .before .integer-node .ensures) (c .before .before .before .before .a4 .given .1) in
-    (to-operand (s .pre .0) (b .1), ready (s .pre .1) (b .1) (c .before .operand7 .ensures .1))
 
 integer-divide-requires : (t : ℕ) → integer-lts.Need-divide-requires (integer-calls t) (integer-at t) integer.Post
 integer-divide-requires t c κs = tt
 
-integer-enum-known-a-5 : (t : ℕ) → integer-lts.Need-enum-known-a-5 (integer-calls t) (integer-at t) integer.Post
-integer-enum-known-a-5 t c = search needs
+integer-enum-known-a : (t : ℕ) → integer-lts.Need-enum-known-a (integer-calls t) (integer-at t) integer.Post
+integer-enum-known-a t c = search needs
 
-integer-operand-requires-9 : (t : ℕ) → integer-lts.Need-operand-requires-9 (integer-calls t) (integer-at t) integer.Post
-integer-operand-requires-9 t c κs =
+integer-operand-requires-5 : (t : ℕ) → integer-lts.Need-operand-requires-5 (integer-calls t) (integer-at t) integer.Post
+integer-operand-requires-5 t c κs =
     let s = c .before .before .before .before .before in
-    let b = integer-smaller (s .pre .1) (c .before .before .before .before .integer-node .ensures) (c .before .before .a5 .given .1) in
-    (to-operand (s .pre .0) (b .0), ready (s .pre .1) (b .0) refl)
-
-integer-operand-requires-10 : (t : ℕ) → integer-lts.Need-operand-requires-10 (integer-calls t) (integer-at t) integer.Post
-integer-operand-requires-10 t c κs =
-    let s = c .before .before .before .before .before .before .before in
-    let b = integer-smaller (s .pre .1) (c .before .before .before .before .before .before .integer-node .ensures) (c .before .before .before .before .a5 .given .1) in
-    (to-operand (s .pre .0) (b .1), ready (s .pre .1) (b .1) (c .before .operand9 .ensures .1))
-
-integer-divide-requires-2 : (t : ℕ) → integer-lts.Need-divide-requires-2 (integer-calls t) (integer-at t) integer.Post
-integer-divide-requires-2 t c κs = tt
-
-integer-enum-known-a-6 : (t : ℕ) → integer-lts.Need-enum-known-a-6 (integer-calls t) (integer-at t) integer.Post
-integer-enum-known-a-6 t c = search needs
-
-integer-operand-requires-11 : (t : ℕ) → integer-lts.Need-operand-requires-11 (integer-calls t) (integer-at t) integer.Post
-integer-operand-requires-11 t c κs =
-    let s = c .before .before .before .before .before in
-    let b = integer-smaller (s .pre .1) (c .before .before .before .before .integer-node .ensures) (c .before .before .a6 .given .1) in
+    let b = integer-smaller (s .pre .1) (c .before .before .before .before .integer-node .ensures) (c .before .before .a .given .1) in
     (to-operand (s .pre .0) (b), ready (s .pre .1) (b) refl)
 
 integer-negate-requires : (t : ℕ) → integer-lts.Need-negate-requires (integer-calls t) (integer-at t) integer.Post
 integer-negate-requires t c κs = tt
 
-integer-enum-known-a-7 : (t : ℕ) → integer-lts.Need-enum-known-a-7 (integer-calls t) (integer-at t) integer.Post
-integer-enum-known-a-7 t c = search needs
-
-integer-operand-requires-12 : (t : ℕ) → integer-lts.Need-operand-requires-12 (integer-calls t) (integer-at t) integer.Post
-integer-operand-requires-12 t c κs =
-    let s = c .before .before .before .before .before in
-    let b = integer-smaller (s .pre .1) (c .before .before .before .before .integer-node .ensures) (c .before .before .a7 .given .1) in
-    (to-operand (s .pre .0) (b .0), ready (s .pre .1) (b .0) refl)
-
-integer-operand-requires-13 : (t : ℕ) → integer-lts.Need-operand-requires-13 (integer-calls t) (integer-at t) integer.Post
-integer-operand-requires-13 t c κs =
-    let s = c .before .before .before .before .before .before .before in
-    let b = integer-smaller (s .pre .1) (c .before .before .before .before .before .before .integer-node .ensures) (c .before .before .before .before .a7 .given .1) in
-    (to-operand (s .pre .0) (b .1), ready (s .pre .1) (b .1) (c .before .operand12 .ensures .1))
-
-integer-calculate-requires-4 : (t : ℕ) → integer-lts.Need-calculate-requires-4 (integer-calls t) (integer-at t) integer.Post
-integer-calculate-requires-4 t c κs = tt
-
-integer-enum-known-a-8 : (t : ℕ) → integer-lts.Need-enum-known-a-8 (integer-calls t) (integer-at t) integer.Post
-integer-enum-known-a-8 t c = search needs
-
-integer-operand-requires-14 : (t : ℕ) → integer-lts.Need-operand-requires-14 (integer-calls t) (integer-at t) integer.Post
-integer-operand-requires-14 t c κs =
-    let s = c .before .before .before .before .before in
-    let b = integer-smaller (s .pre .1) (c .before .before .before .before .integer-node .ensures) (c .before .before .a8 .given .1) in
-    (to-operand (s .pre .0) (b .0), ready (s .pre .1) (b .0) refl)
-
-integer-operand-requires-15 : (t : ℕ) → integer-lts.Need-operand-requires-15 (integer-calls t) (integer-at t) integer.Post
-integer-operand-requires-15 t c κs =
-    let s = c .before .before .before .before .before .before .before in
-    let b = integer-smaller (s .pre .1) (c .before .before .before .before .before .before .integer-node .ensures) (c .before .before .before .before .a8 .given .1) in
-    (to-operand (s .pre .0) (b .1), ready (s .pre .1) (b .1) (c .before .operand14 .ensures .1))
-
-integer-calculate-requires-5 : (t : ℕ) → integer-lts.Need-calculate-requires-5 (integer-calls t) (integer-at t) integer.Post
-integer-calculate-requires-5 t c κs = tt
-
-integer-enum-known-a-9 : (t : ℕ) → integer-lts.Need-enum-known-a-9 (integer-calls t) (integer-at t) integer.Post
-integer-enum-known-a-9 t c = search needs
+integer-enum-known-a-2 : (t : ℕ) → integer-lts.Need-enum-known-a-2 (integer-calls t) (integer-at t) integer.Post
+integer-enum-known-a-2 t c = search needs
 
 integer-truth-requires : (t : ℕ) → integer-lts.Need-truth-requires (integer-calls t) (integer-at t) integer.Post
 integer-truth-requires t c κs =
     let s = c .before .before .before .before .before in
-    let b = integer-smaller (s .pre .1) (c .before .before .before .before .integer-node .ensures) (c .before .before .a9 .given .1) in
+    let b = integer-smaller (s .pre .1) (c .before .before .before .before .integer-node .ensures) (c .before .before .a2 .given .1) in
     (to-node (s .pre .0) (b), ready (s .pre .1) (b) refl)
 
 integer-number-requires : (t : ℕ) → integer-lts.Need-number-requires (integer-calls t) (integer-at t) integer.Post
 integer-number-requires t c κs = tt
 
-integer-enum-known-a-10 : (t : ℕ) → integer-lts.Need-enum-known-a-10 (integer-calls t) (integer-at t) integer.Post
-integer-enum-known-a-10 t c = search needs
+integer-enum-known-a-3 : (t : ℕ) → integer-lts.Need-enum-known-a-3 (integer-calls t) (integer-at t) integer.Post
+integer-enum-known-a-3 t c = search needs
 
-integer-operand-requires-16 : (t : ℕ) → integer-lts.Need-operand-requires-16 (integer-calls t) (integer-at t) integer.Post
-integer-operand-requires-16 t c κs =
+integer-operand-requires-6 : (t : ℕ) → integer-lts.Need-operand-requires-6 (integer-calls t) (integer-at t) integer.Post
+integer-operand-requires-6 t c κs =
     let s = c .before .before .before .before .before in
-    let b = integer-smaller (s .pre .1) (c .before .before .before .before .integer-node .ensures) (c .before .before .a10 .given .1) in
+    let b = integer-smaller (s .pre .1) (c .before .before .before .before .integer-node .ensures) (c .before .before .a3 .given .1) in
     (to-operand (s .pre .0) (b), ready (s .pre .1) (b) refl)
 
 integer-looked-up-requires : (t : ℕ) → integer-lts.Need-looked-up-requires (integer-calls t) (integer-at t) integer.Post
@@ -404,8 +307,8 @@ integer-returns-4 t c =
     let s = c .before .before .before .before .before .before .before .before .before in
     let ρ = meant (s .args .reading) in
     let α = s .args .assignment .now in (
-      of-two (integers (λ x y. some (arithmetic syntax.plus x y))) (integerAt ρ (s .args .t .now) (s .args .places .now) α) (c .calculate .ensures) (c .before .before .before .operand .ensures .0) (c .before .before .before .operand .ensures .1) (c .before .operand2 .ensures .0)
-          (integer-case (s .pre .1) ρ α (c .before .before .before .before .before .before .before .before .integer-node .ensures) (c .before .before .before .before .before .before .a .given .1)),
+      of-two (integers (λ x y. some (arithmetic (arithmeticOf (c .before .before .before .before .before .before .op .given .0 .0)) x y))) (integerAt ρ (s .args .t .now) (s .args .places .now) α) (c .calculate .ensures) (c .before .before .before .operand .ensures .0) (c .before .before .before .operand .ensures .1) (c .before .operand2 .ensures .0)
+          (integer-case (s .pre .1) ρ α (c .before .before .before .before .before .before .before .before .integer-node .ensures) (c .before .before .before .before .before .before .op .given .1)),
       c .before .operand2 .ensures .1 ∙ c .before .before .before .operand .ensures .1,
     )
 
@@ -414,84 +317,34 @@ integer-returns-5 t c =
     let s = c .before .before .before .before .before .before .before .before .before in
     let ρ = meant (s .args .reading) in
     let α = s .args .assignment .now in (
-      of-two (integers (λ x y. some (arithmetic syntax.minus x y))) (integerAt ρ (s .args .t .now) (s .args .places .now) α) (c .calculate2 .ensures) (c .before .before .before .operand3 .ensures .0) (c .before .before .before .operand3 .ensures .1) (c .before .operand4 .ensures .0)
-          (integer-case (s .pre .1) ρ α (c .before .before .before .before .before .before .before .before .integer-node .ensures) (c .before .before .before .before .before .before .a2 .given .1)),
+      of-two (integers (division (divisionOf (c .before .before .before .before .before .before .op2 .given .0 .0)))) (integerAt ρ (s .args .t .now) (s .args .places .now) α) (c .divide .ensures) (c .before .before .before .operand3 .ensures .0) (c .before .before .before .operand3 .ensures .1) (c .before .operand4 .ensures .0)
+          (integer-case (s .pre .1) ρ α (c .before .before .before .before .before .before .before .before .integer-node .ensures) (c .before .before .before .before .before .before .op2 .given .1)),
       c .before .operand4 .ensures .1 ∙ c .before .before .before .operand3 .ensures .1,
     )
 
 integer-returns-6 : (t : ℕ) → integer-lts.Need-returns-6 (integer-calls t) (integer-at t) integer.Post
 integer-returns-6 t c =
-    let s = c .before .before .before .before .before .before .before .before .before in
+    let s = c .before .before .before .before .before .before .before in
     let ρ = meant (s .args .reading) in
-    let α = s .args .assignment .now in (
-      of-two (integers (λ x y. some (arithmetic syntax.times x y))) (integerAt ρ (s .args .t .now) (s .args .places .now) α) (c .calculate3 .ensures) (c .before .before .before .operand5 .ensures .0) (c .before .before .before .operand5 .ensures .1) (c .before .operand6 .ensures .0)
-          (integer-case (s .pre .1) ρ α (c .before .before .before .before .before .before .before .before .integer-node .ensures) (c .before .before .before .before .before .before .a3 .given .1)),
-      c .before .operand6 .ensures .1 ∙ c .before .before .before .operand5 .ensures .1,
-    )
+    let α = s .args .assignment .now in
+    (of-one (negated) (c .negate .ensures) (c .before .operand5 .ensures .0) (integer-case (s .pre .1) ρ α (c .before .before .before .before .before .before .integer-node .ensures) (c .before .before .before .before .a .given .1)), c .before .operand5 .ensures .1)
 
 integer-returns-7 : (t : ℕ) → integer-lts.Need-returns-7 (integer-calls t) (integer-at t) integer.Post
 integer-returns-7 t c =
-    let s = c .before .before .before .before .before .before .before .before .before in
+    let s = c .before .before .before .before .before .before .before in
     let ρ = meant (s .args .reading) in
-    let α = s .args .assignment .now in (
-      of-two (integers (division syntax.quot)) (integerAt ρ (s .args .t .now) (s .args .places .now) α) (c .divide .ensures) (c .before .before .before .operand7 .ensures .0) (c .before .before .before .operand7 .ensures .1) (c .before .operand8 .ensures .0)
-          (integer-case (s .pre .1) ρ α (c .before .before .before .before .before .before .before .before .integer-node .ensures) (c .before .before .before .before .before .before .a4 .given .1)),
-      c .before .operand8 .ensures .1 ∙ c .before .before .before .operand7 .ensures .1,
-    )
+    let α = s .args .assignment .now in
+    (of-one (numbered) (c .number .ensures) (c .before .truth .ensures .0) (integer-case (s .pre .1) ρ α (c .before .before .before .before .before .before .integer-node .ensures) (c .before .before .before .before .a2 .given .1)), c .before .truth .ensures .1)
 
 integer-returns-8 : (t : ℕ) → integer-lts.Need-returns-8 (integer-calls t) (integer-at t) integer.Post
 integer-returns-8 t c =
-    let s = c .before .before .before .before .before .before .before .before .before in
+    let s = c .before .before .before .before .before .before .before in
     let ρ = meant (s .args .reading) in
-    let α = s .args .assignment .now in (
-      of-two (integers (division syntax.rem)) (integerAt ρ (s .args .t .now) (s .args .places .now) α) (c .divide2 .ensures) (c .before .before .before .operand9 .ensures .0) (c .before .before .before .operand9 .ensures .1) (c .before .operand10 .ensures .0)
-          (integer-case (s .pre .1) ρ α (c .before .before .before .before .before .before .before .before .integer-node .ensures) (c .before .before .before .before .before .before .a5 .given .1)),
-      c .before .operand10 .ensures .1 ∙ c .before .before .before .operand9 .ensures .1,
-    )
+    let α = s .args .assignment .now in
+    (of-one (lookedUp readings.strict (declared (s .args .t .now) (s .args .places .now)) α (c .before .before .before .before .a3 .given .0 .0 .0)) (c .looked-up .ensures) (c .before .operand6 .ensures .0) (integer-case (s .pre .1) ρ α (c .before .before .before .before .before .before .integer-node .ensures) (c .before .before .before .before .a3 .given .1)), c .before .operand6 .ensures .1)
 
 integer-returns-9 : (t : ℕ) → integer-lts.Need-returns-9 (integer-calls t) (integer-at t) integer.Post
 integer-returns-9 t c =
-    let s = c .before .before .before .before .before .before .before in
-    let ρ = meant (s .args .reading) in
-    let α = s .args .assignment .now in
-    (of-one (negated) (c .negate .ensures) (c .before .operand11 .ensures .0) (integer-case (s .pre .1) ρ α (c .before .before .before .before .before .before .integer-node .ensures) (c .before .before .before .before .a6 .given .1)), c .before .operand11 .ensures .1)
-
-integer-returns-10 : (t : ℕ) → integer-lts.Need-returns-10 (integer-calls t) (integer-at t) integer.Post
-integer-returns-10 t c =
-    let s = c .before .before .before .before .before .before .before .before .before in
-    let ρ = meant (s .args .reading) in
-    let α = s .args .assignment .now in (
-      of-two (integers (λ x y. some (arithmetic syntax.least x y))) (integerAt ρ (s .args .t .now) (s .args .places .now) α) (c .calculate4 .ensures) (c .before .before .before .operand12 .ensures .0) (c .before .before .before .operand12 .ensures .1) (c .before .operand13 .ensures .0)
-          (integer-case (s .pre .1) ρ α (c .before .before .before .before .before .before .before .before .integer-node .ensures) (c .before .before .before .before .before .before .a7 .given .1)),
-      c .before .operand13 .ensures .1 ∙ c .before .before .before .operand12 .ensures .1,
-    )
-
-integer-returns-11 : (t : ℕ) → integer-lts.Need-returns-11 (integer-calls t) (integer-at t) integer.Post
-integer-returns-11 t c =
-    let s = c .before .before .before .before .before .before .before .before .before in
-    let ρ = meant (s .args .reading) in
-    let α = s .args .assignment .now in (
-      of-two (integers (λ x y. some (arithmetic syntax.most x y))) (integerAt ρ (s .args .t .now) (s .args .places .now) α) (c .calculate5 .ensures) (c .before .before .before .operand14 .ensures .0) (c .before .before .before .operand14 .ensures .1) (c .before .operand15 .ensures .0)
-          (integer-case (s .pre .1) ρ α (c .before .before .before .before .before .before .before .before .integer-node .ensures) (c .before .before .before .before .before .before .a8 .given .1)),
-      c .before .operand15 .ensures .1 ∙ c .before .before .before .operand14 .ensures .1,
-    )
-
-integer-returns-12 : (t : ℕ) → integer-lts.Need-returns-12 (integer-calls t) (integer-at t) integer.Post
-integer-returns-12 t c =
-    let s = c .before .before .before .before .before .before .before in
-    let ρ = meant (s .args .reading) in
-    let α = s .args .assignment .now in
-    (of-one (numbered) (c .number .ensures) (c .before .truth .ensures .0) (integer-case (s .pre .1) ρ α (c .before .before .before .before .before .before .integer-node .ensures) (c .before .before .before .before .a9 .given .1)), c .before .truth .ensures .1)
-
-integer-returns-13 : (t : ℕ) → integer-lts.Need-returns-13 (integer-calls t) (integer-at t) integer.Post
-integer-returns-13 t c =
-    let s = c .before .before .before .before .before .before .before in
-    let ρ = meant (s .args .reading) in
-    let α = s .args .assignment .now in
-    (of-one (lookedUp readings.strict (declared (s .args .t .now) (s .args .places .now)) α (c .before .before .before .before .a10 .given .0 .0 .0)) (c .looked-up .ensures) (c .before .operand16 .ensures .0) (integer-case (s .pre .1) ρ α (c .before .before .before .before .before .before .integer-node .ensures) (c .before .before .before .before .a10 .given .1)), c .before .operand16 .ensures .1)
-
-integer-returns-14 : (t : ℕ) → integer-lts.Need-returns-14 (integer-calls t) (integer-at t) integer.Post
-integer-returns-14 t c =
     let s = c .before .before .before .before .before .before in
     let ρ = meant (s .args .reading) in
     let α = s .args .assignment .now in
@@ -778,157 +631,103 @@ truth-operand-requires t c κs =
 truth-looked-up-truth-requires : (t : ℕ) → truth-lts.Need-looked-up-truth-requires (truth-calls t) (truth-at t) truth.Post
 truth-looked-up-truth-requires t c κs = c .before .before .before .before .before .before .pre .1 .laid
 
-truth-enum-known-a-2 : (t : ℕ) → truth-lts.Need-enum-known-a-2 (truth-calls t) (truth-at t) truth.Post
-truth-enum-known-a-2 t c = search needs
+truth-enum-known-op : (t : ℕ) → truth-lts.Need-enum-known-op (truth-calls t) (truth-at t) truth.Post
+truth-enum-known-op t c = search needs
 
 truth-truth-requires : (t : ℕ) → truth-lts.Need-truth-requires (truth-calls t) (truth-at t) truth.Post
 truth-truth-requires t c κs =
     let s = c .before .before .before .before .before in
-    let b = truth-smaller (s .pre .1) (c .before .before .before .before .truth-node .ensures) (c .before .before .a2 .given .1) in
+    let b = truth-smaller (s .pre .1) (c .before .before .before .before .truth-node .ensures) (c .before .before .op .given .1) in
     (to-node (s .pre .0) (b .0), ready (s .pre .1) (b .0) refl)
 
 truth-truth-requires-2 : (t : ℕ) → truth-lts.Need-truth-requires-2 (truth-calls t) (truth-at t) truth.Post
 truth-truth-requires-2 t c κs =
     let s = c .before .before .before .before .before .before .before in
-    let b = truth-smaller (s .pre .1) (c .before .before .before .before .before .before .truth-node .ensures) (c .before .before .before .before .a2 .given .1) in
+    let b = truth-smaller (s .pre .1) (c .before .before .before .before .before .before .truth-node .ensures) (c .before .before .before .before .op .given .1) in
     (to-node (s .pre .0) (b .1), ready (s .pre .1) (b .1) (c .before .truth .ensures .1))
 
 truth-connect-requires : (t : ℕ) → truth-lts.Need-connect-requires (truth-calls t) (truth-at t) truth.Post
 truth-connect-requires t c κs = tt
 
-truth-enum-known-a-3 : (t : ℕ) → truth-lts.Need-enum-known-a-3 (truth-calls t) (truth-at t) truth.Post
-truth-enum-known-a-3 t c = search needs
+truth-enum-known-a-2 : (t : ℕ) → truth-lts.Need-enum-known-a-2 (truth-calls t) (truth-at t) truth.Post
+truth-enum-known-a-2 t c = search needs
 
 truth-truth-requires-3 : (t : ℕ) → truth-lts.Need-truth-requires-3 (truth-calls t) (truth-at t) truth.Post
 truth-truth-requires-3 t c κs =
     let s = c .before .before .before .before .before in
-    let b = truth-smaller (s .pre .1) (c .before .before .before .before .truth-node .ensures) (c .before .before .a3 .given .1) in
-    (to-node (s .pre .0) (b .0), ready (s .pre .1) (b .0) refl)
-
-truth-truth-requires-4 : (t : ℕ) → truth-lts.Need-truth-requires-4 (truth-calls t) (truth-at t) truth.Post
-truth-truth-requires-4 t c κs =
-    let s = c .before .before .before .before .before .before .before in
-    let b = truth-smaller (s .pre .1) (c .before .before .before .before .before .before .truth-node .ensures) (c .before .before .before .before .a3 .given .1) in
-    (to-node (s .pre .0) (b .1), ready (s .pre .1) (b .1) (c .before .truth3 .ensures .1))
-
-truth-connect-requires-2 : (t : ℕ) → truth-lts.Need-connect-requires-2 (truth-calls t) (truth-at t) truth.Post
-truth-connect-requires-2 t c κs = tt
-
-truth-enum-known-a-4 : (t : ℕ) → truth-lts.Need-enum-known-a-4 (truth-calls t) (truth-at t) truth.Post
-truth-enum-known-a-4 t c = search needs
-
-truth-truth-requires-5 : (t : ℕ) → truth-lts.Need-truth-requires-5 (truth-calls t) (truth-at t) truth.Post
-truth-truth-requires-5 t c κs =
-    let s = c .before .before .before .before .before in
-    let b = truth-smaller (s .pre .1) (c .before .before .before .before .truth-node .ensures) (c .before .before .a4 .given .1) in
-    (to-node (s .pre .0) (b .0), ready (s .pre .1) (b .0) refl)
-
-truth-truth-requires-6 : (t : ℕ) → truth-lts.Need-truth-requires-6 (truth-calls t) (truth-at t) truth.Post
-truth-truth-requires-6 t c κs =
-    let s = c .before .before .before .before .before .before .before in
-    let b = truth-smaller (s .pre .1) (c .before .before .before .before .before .before .truth-node .ensures) (c .before .before .before .before .a4 .given .1) in
-    (to-node (s .pre .0) (b .1), ready (s .pre .1) (b .1) (c .before .truth5 .ensures .1))
-
-truth-connect-requires-3 : (t : ℕ) → truth-lts.Need-connect-requires-3 (truth-calls t) (truth-at t) truth.Post
-truth-connect-requires-3 t c κs = tt
-
-truth-enum-known-a-5 : (t : ℕ) → truth-lts.Need-enum-known-a-5 (truth-calls t) (truth-at t) truth.Post
-truth-enum-known-a-5 t c = search needs
-
-truth-truth-requires-7 : (t : ℕ) → truth-lts.Need-truth-requires-7 (truth-calls t) (truth-at t) truth.Post
-truth-truth-requires-7 t c κs =
-    let s = c .before .before .before .before .before in
-    let b = truth-smaller (s .pre .1) (c .before .before .before .before .truth-node .ensures) (c .before .before .a5 .given .1) in
-    (to-node (s .pre .0) (b .0), ready (s .pre .1) (b .0) refl)
-
-truth-truth-requires-8 : (t : ℕ) → truth-lts.Need-truth-requires-8 (truth-calls t) (truth-at t) truth.Post
-truth-truth-requires-8 t c κs =
-    let s = c .before .before .before .before .before .before .before in
-    let b = truth-smaller (s .pre .1) (c .before .before .before .before .before .before .truth-node .ensures) (c .before .before .before .before .a5 .given .1) in
-    (to-node (s .pre .0) (b .1), ready (s .pre .1) (b .1) (c .before .truth7 .ensures .1))
-
-truth-connect-requires-4 : (t : ℕ) → truth-lts.Need-connect-requires-4 (truth-calls t) (truth-at t) truth.Post
-truth-connect-requires-4 t c κs = tt
-
-truth-enum-known-a-6 : (t : ℕ) → truth-lts.Need-enum-known-a-6 (truth-calls t) (truth-at t) truth.Post
-truth-enum-known-a-6 t c = search needs
-
-truth-truth-requires-9 : (t : ℕ) → truth-lts.Need-truth-requires-9 (truth-calls t) (truth-at t) truth.Post
-truth-truth-requires-9 t c κs =
-    let s = c .before .before .before .before .before in
-    let b = truth-smaller (s .pre .1) (c .before .before .before .before .truth-node .ensures) (c .before .before .a6 .given .1) in
+    let b = truth-smaller (s .pre .1) (c .before .before .before .before .truth-node .ensures) (c .before .before .a2 .given .1) in
     (to-node (s .pre .0) (b), ready (s .pre .1) (b) refl)
 
 truth-negation-requires : (t : ℕ) → truth-lts.Need-negation-requires (truth-calls t) (truth-at t) truth.Post
 truth-negation-requires t c κs = tt
 
-truth-enum-known-a-7 : (t : ℕ) → truth-lts.Need-enum-known-a-7 (truth-calls t) (truth-at t) truth.Post
-truth-enum-known-a-7 t c = search needs
+truth-enum-known-a-3 : (t : ℕ) → truth-lts.Need-enum-known-a-3 (truth-calls t) (truth-at t) truth.Post
+truth-enum-known-a-3 t c = search needs
 
 truth-operand-requires-2 : (t : ℕ) → truth-lts.Need-operand-requires-2 (truth-calls t) (truth-at t) truth.Post
 truth-operand-requires-2 t c κs =
     let s = c .before .before .before .before .before in
-    let b = truth-smaller (s .pre .1) (c .before .before .before .before .truth-node .ensures) (c .before .before .a7 .given .1) in
+    let b = truth-smaller (s .pre .1) (c .before .before .before .before .truth-node .ensures) (c .before .before .a3 .given .1) in
     (to-operand (s .pre .0) (b .0), ready (s .pre .1) (b .0) refl)
 
 truth-operand-requires-3 : (t : ℕ) → truth-lts.Need-operand-requires-3 (truth-calls t) (truth-at t) truth.Post
 truth-operand-requires-3 t c κs =
     let s = c .before .before .before .before .before .before .before in
-    let b = truth-smaller (s .pre .1) (c .before .before .before .before .before .before .truth-node .ensures) (c .before .before .before .before .a7 .given .1) in
+    let b = truth-smaller (s .pre .1) (c .before .before .before .before .before .before .truth-node .ensures) (c .before .before .before .before .a3 .given .1) in
     (to-operand (s .pre .0) (b .1), ready (s .pre .1) (b .1) (c .before .operand2 .ensures .1))
 
 truth-compare-requires : (t : ℕ) → truth-lts.Need-compare-requires (truth-calls t) (truth-at t) truth.Post
 truth-compare-requires t c κs = tt
 
-truth-enum-known-a-8 : (t : ℕ) → truth-lts.Need-enum-known-a-8 (truth-calls t) (truth-at t) truth.Post
-truth-enum-known-a-8 t c = search needs
+truth-enum-known-a-4 : (t : ℕ) → truth-lts.Need-enum-known-a-4 (truth-calls t) (truth-at t) truth.Post
+truth-enum-known-a-4 t c = search needs
 
 truth-operand-requires-4 : (t : ℕ) → truth-lts.Need-operand-requires-4 (truth-calls t) (truth-at t) truth.Post
 truth-operand-requires-4 t c κs =
     let s = c .before .before .before .before .before in
-    let b = truth-smaller (s .pre .1) (c .before .before .before .before .truth-node .ensures) (c .before .before .a8 .given .1) in
+    let b = truth-smaller (s .pre .1) (c .before .before .before .before .truth-node .ensures) (c .before .before .a4 .given .1) in
     (to-operand (s .pre .0) (b .0), ready (s .pre .1) (b .0) refl)
 
 truth-operand-requires-5 : (t : ℕ) → truth-lts.Need-operand-requires-5 (truth-calls t) (truth-at t) truth.Post
 truth-operand-requires-5 t c κs =
     let s = c .before .before .before .before .before .before .before in
-    let b = truth-smaller (s .pre .1) (c .before .before .before .before .before .before .truth-node .ensures) (c .before .before .before .before .a8 .given .1) in
+    let b = truth-smaller (s .pre .1) (c .before .before .before .before .before .before .truth-node .ensures) (c .before .before .before .before .a4 .given .1) in
     (to-operand (s .pre .0) (b .1), ready (s .pre .1) (b .1) (c .before .operand4 .ensures .1))
 
 truth-compare-requires-2 : (t : ℕ) → truth-lts.Need-compare-requires-2 (truth-calls t) (truth-at t) truth.Post
 truth-compare-requires-2 t c κs = tt
 
-truth-enum-known-a-9 : (t : ℕ) → truth-lts.Need-enum-known-a-9 (truth-calls t) (truth-at t) truth.Post
-truth-enum-known-a-9 t c = search needs
+truth-enum-known-a-5 : (t : ℕ) → truth-lts.Need-enum-known-a-5 (truth-calls t) (truth-at t) truth.Post
+truth-enum-known-a-5 t c = search needs
 
 truth-operand-requires-6 : (t : ℕ) → truth-lts.Need-operand-requires-6 (truth-calls t) (truth-at t) truth.Post
 truth-operand-requires-6 t c κs =
     let s = c .before .before .before .before .before in
-    let b = truth-smaller (s .pre .1) (c .before .before .before .before .truth-node .ensures) (c .before .before .a9 .given .1) in
+    let b = truth-smaller (s .pre .1) (c .before .before .before .before .truth-node .ensures) (c .before .before .a5 .given .1) in
     (to-operand (s .pre .0) (b .0), ready (s .pre .1) (b .0) refl)
 
 truth-operand-requires-7 : (t : ℕ) → truth-lts.Need-operand-requires-7 (truth-calls t) (truth-at t) truth.Post
 truth-operand-requires-7 t c κs =
     let s = c .before .before .before .before .before .before .before in
-    let b = truth-smaller (s .pre .1) (c .before .before .before .before .before .before .truth-node .ensures) (c .before .before .before .before .a9 .given .1) in
+    let b = truth-smaller (s .pre .1) (c .before .before .before .before .before .before .truth-node .ensures) (c .before .before .before .before .a5 .given .1) in
     (to-operand (s .pre .0) (b .1), ready (s .pre .1) (b .1) (c .before .operand6 .ensures .1))
 
 truth-compare-requires-3 : (t : ℕ) → truth-lts.Need-compare-requires-3 (truth-calls t) (truth-at t) truth.Post
 truth-compare-requires-3 t c κs = tt
 
-truth-enum-known-a-10 : (t : ℕ) → truth-lts.Need-enum-known-a-10 (truth-calls t) (truth-at t) truth.Post
-truth-enum-known-a-10 t c = search needs
+truth-enum-known-a-6 : (t : ℕ) → truth-lts.Need-enum-known-a-6 (truth-calls t) (truth-at t) truth.Post
+truth-enum-known-a-6 t c = search needs
 
 truth-operand-requires-8 : (t : ℕ) → truth-lts.Need-operand-requires-8 (truth-calls t) (truth-at t) truth.Post
 truth-operand-requires-8 t c κs =
     let s = c .before .before .before .before .before in
-    let b = truth-smaller (s .pre .1) (c .before .before .before .before .truth-node .ensures) (c .before .before .a10 .given .1) in
+    let b = truth-smaller (s .pre .1) (c .before .before .before .before .truth-node .ensures) (c .before .before .a6 .given .1) in
     (to-operand (s .pre .0) (b .0), ready (s .pre .1) (b .0) refl)
 
 truth-operand-requires-9 : (t : ℕ) → truth-lts.Need-operand-requires-9 (truth-calls t) (truth-at t) truth.Post
 truth-operand-requires-9 t c κs =
     let s = c .before .before .before .before .before .before .before in
-    let b = truth-smaller (s .pre .1) (c .before .before .before .before .before .before .truth-node .ensures) (c .before .before .before .before .a10 .given .1) in
+    let b = truth-smaller (s .pre .1) (c .before .before .before .before .before .before .truth-node .ensures) (c .before .before .before .before .a6 .given .1) in
     (to-operand (s .pre .0) (b .1), ready (s .pre .1) (b .1) (c .before .operand8 .ensures .1))
 
 truth-compare-requires-4 : (t : ℕ) → truth-lts.Need-compare-requires-4 (truth-calls t) (truth-at t) truth.Post
@@ -978,29 +777,26 @@ truth-returns-4 t c =
     let s = c .before .before .before .before .before .before .before .before .before in
     let ρ = meant (s .args .reading) in
     let α = s .args .assignment .now in (
-      of-two (connected ρ syntax.conj) (truthAt ρ (s .args .t .now) (s .args .places .now) α) (c .connect .ensures) (c .before .before .before .truth .ensures .0) (c .before .before .before .truth .ensures .1) (c .before .truth2 .ensures .0)
-          (truth-case (s .pre .1) ρ α (c .before .before .before .before .before .before .before .before .truth-node .ensures) (c .before .before .before .before .before .before .a2 .given .1)),
+      of-two (connected ρ (connectiveOf (c .before .before .before .before .before .before .op .given .0 .0))) (truthAt ρ (s .args .t .now) (s .args .places .now) α) (c .connect .ensures) (c .before .before .before .truth .ensures .0) (c .before .before .before .truth .ensures .1) (c .before .truth2 .ensures .0)
+          (truth-case (s .pre .1) ρ α (c .before .before .before .before .before .before .before .before .truth-node .ensures) (c .before .before .before .before .before .before .op .given .1)),
       c .before .truth2 .ensures .1 ∙ c .before .before .before .truth .ensures .1,
     )
 
 truth-returns-5 : (t : ℕ) → truth-lts.Need-returns-5 (truth-calls t) (truth-at t) truth.Post
 truth-returns-5 t c =
-    let s = c .before .before .before .before .before .before .before .before .before in
+    let s = c .before .before .before .before .before .before .before in
     let ρ = meant (s .args .reading) in
-    let α = s .args .assignment .now in (
-      of-two (connected ρ syntax.disj) (truthAt ρ (s .args .t .now) (s .args .places .now) α) (c .connect2 .ensures) (c .before .before .before .truth3 .ensures .0) (c .before .before .before .truth3 .ensures .1) (c .before .truth4 .ensures .0)
-          (truth-case (s .pre .1) ρ α (c .before .before .before .before .before .before .before .before .truth-node .ensures) (c .before .before .before .before .before .before .a3 .given .1)),
-      c .before .truth4 .ensures .1 ∙ c .before .before .before .truth3 .ensures .1,
-    )
+    let α = s .args .assignment .now in
+    (of-one (opposed) (c .negation .ensures) (c .before .truth3 .ensures .0) (truth-case (s .pre .1) ρ α (c .before .before .before .before .before .before .truth-node .ensures) (c .before .before .before .before .a2 .given .1)), c .before .truth3 .ensures .1)
 
 truth-returns-6 : (t : ℕ) → truth-lts.Need-returns-6 (truth-calls t) (truth-at t) truth.Post
 truth-returns-6 t c =
     let s = c .before .before .before .before .before .before .before .before .before in
     let ρ = meant (s .args .reading) in
     let α = s .args .assignment .now in (
-      of-two (connected ρ syntax.implies) (truthAt ρ (s .args .t .now) (s .args .places .now) α) (c .connect3 .ensures) (c .before .before .before .truth5 .ensures .0) (c .before .before .before .truth5 .ensures .1) (c .before .truth6 .ensures .0)
-          (truth-case (s .pre .1) ρ α (c .before .before .before .before .before .before .before .before .truth-node .ensures) (c .before .before .before .before .before .before .a4 .given .1)),
-      c .before .truth6 .ensures .1 ∙ c .before .before .before .truth5 .ensures .1,
+      of-two (compared ρ syntax.equal) (integerAt ρ (s .args .t .now) (s .args .places .now) α) (c .compare .ensures) (c .before .before .before .operand2 .ensures .0) (c .before .before .before .operand2 .ensures .1) (c .before .operand3 .ensures .0)
+          (truth-case (s .pre .1) ρ α (c .before .before .before .before .before .before .before .before .truth-node .ensures) (c .before .before .before .before .before .before .a3 .given .1)),
+      c .before .operand3 .ensures .1 ∙ c .before .before .before .operand2 .ensures .1,
     )
 
 truth-returns-7 : (t : ℕ) → truth-lts.Need-returns-7 (truth-calls t) (truth-at t) truth.Post
@@ -1008,67 +804,40 @@ truth-returns-7 t c =
     let s = c .before .before .before .before .before .before .before .before .before in
     let ρ = meant (s .args .reading) in
     let α = s .args .assignment .now in (
-      of-two (connected ρ syntax.iff) (truthAt ρ (s .args .t .now) (s .args .places .now) α) (c .connect4 .ensures) (c .before .before .before .truth7 .ensures .0) (c .before .before .before .truth7 .ensures .1) (c .before .truth8 .ensures .0)
-          (truth-case (s .pre .1) ρ α (c .before .before .before .before .before .before .before .before .truth-node .ensures) (c .before .before .before .before .before .before .a5 .given .1)),
-      c .before .truth8 .ensures .1 ∙ c .before .before .before .truth7 .ensures .1,
+      of-two (compared ρ syntax.unequal) (integerAt ρ (s .args .t .now) (s .args .places .now) α) (c .compare2 .ensures) (c .before .before .before .operand4 .ensures .0) (c .before .before .before .operand4 .ensures .1) (c .before .operand5 .ensures .0)
+          (truth-case (s .pre .1) ρ α (c .before .before .before .before .before .before .before .before .truth-node .ensures) (c .before .before .before .before .before .before .a4 .given .1)),
+      c .before .operand5 .ensures .1 ∙ c .before .before .before .operand4 .ensures .1,
     )
 
 truth-returns-8 : (t : ℕ) → truth-lts.Need-returns-8 (truth-calls t) (truth-at t) truth.Post
 truth-returns-8 t c =
-    let s = c .before .before .before .before .before .before .before in
+    let s = c .before .before .before .before .before .before .before .before .before in
     let ρ = meant (s .args .reading) in
-    let α = s .args .assignment .now in
-    (of-one (opposed) (c .negation .ensures) (c .before .truth9 .ensures .0) (truth-case (s .pre .1) ρ α (c .before .before .before .before .before .before .truth-node .ensures) (c .before .before .before .before .a6 .given .1)), c .before .truth9 .ensures .1)
+    let α = s .args .assignment .now in (
+      of-two (compared ρ syntax.atMost) (integerAt ρ (s .args .t .now) (s .args .places .now) α) (c .compare3 .ensures) (c .before .before .before .operand6 .ensures .0) (c .before .before .before .operand6 .ensures .1) (c .before .operand7 .ensures .0)
+          (truth-case (s .pre .1) ρ α (c .before .before .before .before .before .before .before .before .truth-node .ensures) (c .before .before .before .before .before .before .a5 .given .1)),
+      c .before .operand7 .ensures .1 ∙ c .before .before .before .operand6 .ensures .1,
+    )
 
 truth-returns-9 : (t : ℕ) → truth-lts.Need-returns-9 (truth-calls t) (truth-at t) truth.Post
 truth-returns-9 t c =
     let s = c .before .before .before .before .before .before .before .before .before in
     let ρ = meant (s .args .reading) in
     let α = s .args .assignment .now in (
-      of-two (compared ρ syntax.equal) (integerAt ρ (s .args .t .now) (s .args .places .now) α) (c .compare .ensures) (c .before .before .before .operand2 .ensures .0) (c .before .before .before .operand2 .ensures .1) (c .before .operand3 .ensures .0)
-          (truth-case (s .pre .1) ρ α (c .before .before .before .before .before .before .before .before .truth-node .ensures) (c .before .before .before .before .before .before .a7 .given .1)),
-      c .before .operand3 .ensures .1 ∙ c .before .before .before .operand2 .ensures .1,
+      of-two (compared ρ syntax.below) (integerAt ρ (s .args .t .now) (s .args .places .now) α) (c .compare4 .ensures) (c .before .before .before .operand8 .ensures .0) (c .before .before .before .operand8 .ensures .1) (c .before .operand9 .ensures .0)
+          (truth-case (s .pre .1) ρ α (c .before .before .before .before .before .before .before .before .truth-node .ensures) (c .before .before .before .before .before .before .a6 .given .1)),
+      c .before .operand9 .ensures .1 ∙ c .before .before .before .operand8 .ensures .1,
     )
 
 truth-returns-10 : (t : ℕ) → truth-lts.Need-returns-10 (truth-calls t) (truth-at t) truth.Post
 truth-returns-10 t c =
-    let s = c .before .before .before .before .before .before .before .before .before in
-    let ρ = meant (s .args .reading) in
-    let α = s .args .assignment .now in (
-      of-two (compared ρ syntax.unequal) (integerAt ρ (s .args .t .now) (s .args .places .now) α) (c .compare2 .ensures) (c .before .before .before .operand4 .ensures .0) (c .before .before .before .operand4 .ensures .1) (c .before .operand5 .ensures .0)
-          (truth-case (s .pre .1) ρ α (c .before .before .before .before .before .before .before .before .truth-node .ensures) (c .before .before .before .before .before .before .a8 .given .1)),
-      c .before .operand5 .ensures .1 ∙ c .before .before .before .operand4 .ensures .1,
-    )
-
-truth-returns-11 : (t : ℕ) → truth-lts.Need-returns-11 (truth-calls t) (truth-at t) truth.Post
-truth-returns-11 t c =
-    let s = c .before .before .before .before .before .before .before .before .before in
-    let ρ = meant (s .args .reading) in
-    let α = s .args .assignment .now in (
-      of-two (compared ρ syntax.atMost) (integerAt ρ (s .args .t .now) (s .args .places .now) α) (c .compare3 .ensures) (c .before .before .before .operand6 .ensures .0) (c .before .before .before .operand6 .ensures .1) (c .before .operand7 .ensures .0)
-          (truth-case (s .pre .1) ρ α (c .before .before .before .before .before .before .before .before .truth-node .ensures) (c .before .before .before .before .before .before .a9 .given .1)),
-      c .before .operand7 .ensures .1 ∙ c .before .before .before .operand6 .ensures .1,
-    )
-
-truth-returns-12 : (t : ℕ) → truth-lts.Need-returns-12 (truth-calls t) (truth-at t) truth.Post
-truth-returns-12 t c =
-    let s = c .before .before .before .before .before .before .before .before .before in
-    let ρ = meant (s .args .reading) in
-    let α = s .args .assignment .now in (
-      of-two (compared ρ syntax.below) (integerAt ρ (s .args .t .now) (s .args .places .now) α) (c .compare4 .ensures) (c .before .before .before .operand8 .ensures .0) (c .before .before .before .operand8 .ensures .1) (c .before .operand9 .ensures .0)
-          (truth-case (s .pre .1) ρ α (c .before .before .before .before .before .before .before .before .truth-node .ensures) (c .before .before .before .before .before .before .a10 .given .1)),
-      c .before .operand9 .ensures .1 ∙ c .before .before .before .operand8 .ensures .1,
-    )
-
-truth-returns-13 : (t : ℕ) → truth-lts.Need-returns-13 (truth-calls t) (truth-at t) truth.Post
-truth-returns-13 t c =
     let s = c .before .before .before .before .before .before in
     let ρ = meant (s .args .reading) in
     let α = s .args .assignment .now in
     (c .quantified .ensures .0 ∙ truth-case (s .pre .1) ρ α (c .before .before .before .before .before .truth-node .ensures) (c .before .before .before .s .given .1), c .quantified .ensures .1)
 
-truth-returns-14 : (t : ℕ) → truth-lts.Need-returns-14 (truth-calls t) (truth-at t) truth.Post
-truth-returns-14 t c =
+truth-returns-11 : (t : ℕ) → truth-lts.Need-returns-11 (truth-calls t) (truth-at t) truth.Post
+truth-returns-11 t c =
     let s = c .before .before .before .before .before .before in
     let ρ = meant (s .args .reading) in
     let α = s .args .assignment .now in
@@ -1090,42 +859,22 @@ pub +integer+operand+quantified+sum+truth-spec : {M : Type 1} → statement M
     (integer-slot-requires t)
     (integer-cast-limited-2 t)
     (integer-limited-requires-2 t)
-    (integer-enum-known-a t)
+    (integer-enum-known-op t)
     (integer-operand-requires t)
     (integer-operand-requires-2 t)
     (integer-calculate-requires t)
-    (integer-enum-known-a-2 t)
+    (integer-enum-known-op-2 t)
     (integer-operand-requires-3 t)
     (integer-operand-requires-4 t)
-    (integer-calculate-requires-2 t)
-    (integer-enum-known-a-3 t)
-    (integer-operand-requires-5 t)
-    (integer-operand-requires-6 t)
-    (integer-calculate-requires-3 t)
-    (integer-enum-known-a-4 t)
-    (integer-operand-requires-7 t)
-    (integer-operand-requires-8 t)
     (integer-divide-requires t)
-    (integer-enum-known-a-5 t)
-    (integer-operand-requires-9 t)
-    (integer-operand-requires-10 t)
-    (integer-divide-requires-2 t)
-    (integer-enum-known-a-6 t)
-    (integer-operand-requires-11 t)
+    (integer-enum-known-a t)
+    (integer-operand-requires-5 t)
     (integer-negate-requires t)
-    (integer-enum-known-a-7 t)
-    (integer-operand-requires-12 t)
-    (integer-operand-requires-13 t)
-    (integer-calculate-requires-4 t)
-    (integer-enum-known-a-8 t)
-    (integer-operand-requires-14 t)
-    (integer-operand-requires-15 t)
-    (integer-calculate-requires-5 t)
-    (integer-enum-known-a-9 t)
+    (integer-enum-known-a-2 t)
     (integer-truth-requires t)
     (integer-number-requires t)
-    (integer-enum-known-a-10 t)
-    (integer-operand-requires-16 t)
+    (integer-enum-known-a-3 t)
+    (integer-operand-requires-6 t)
     (integer-looked-up-requires t)
     (integer-enum-known-s-2 t)
     (integer-sum-requires t)
@@ -1137,12 +886,7 @@ pub +integer+operand+quantified+sum+truth-spec : {M : Type 1} → statement M
     (integer-returns-6 t)
     (integer-returns-7 t)
     (integer-returns-8 t)
-    (integer-returns-9 t)
-    (integer-returns-10 t)
-    (integer-returns-11 t)
-    (integer-returns-12 t)
-    (integer-returns-13 t)
-    (integer-returns-14 t))
+    (integer-returns-9 t))
     (λ t. operand-lts.spec (operand-calls t)
     (operand-at t)
     operand.Post
@@ -1215,38 +959,26 @@ pub +integer+operand+quantified+sum+truth-spec : {M : Type 1} → statement M
     (truth-enum-known-a t)
     (truth-operand-requires t)
     (truth-looked-up-truth-requires t)
-    (truth-enum-known-a-2 t)
+    (truth-enum-known-op t)
     (truth-truth-requires t)
     (truth-truth-requires-2 t)
     (truth-connect-requires t)
-    (truth-enum-known-a-3 t)
+    (truth-enum-known-a-2 t)
     (truth-truth-requires-3 t)
-    (truth-truth-requires-4 t)
-    (truth-connect-requires-2 t)
-    (truth-enum-known-a-4 t)
-    (truth-truth-requires-5 t)
-    (truth-truth-requires-6 t)
-    (truth-connect-requires-3 t)
-    (truth-enum-known-a-5 t)
-    (truth-truth-requires-7 t)
-    (truth-truth-requires-8 t)
-    (truth-connect-requires-4 t)
-    (truth-enum-known-a-6 t)
-    (truth-truth-requires-9 t)
     (truth-negation-requires t)
-    (truth-enum-known-a-7 t)
+    (truth-enum-known-a-3 t)
     (truth-operand-requires-2 t)
     (truth-operand-requires-3 t)
     (truth-compare-requires t)
-    (truth-enum-known-a-8 t)
+    (truth-enum-known-a-4 t)
     (truth-operand-requires-4 t)
     (truth-operand-requires-5 t)
     (truth-compare-requires-2 t)
-    (truth-enum-known-a-9 t)
+    (truth-enum-known-a-5 t)
     (truth-operand-requires-6 t)
     (truth-operand-requires-7 t)
     (truth-compare-requires-3 t)
-    (truth-enum-known-a-10 t)
+    (truth-enum-known-a-6 t)
     (truth-operand-requires-8 t)
     (truth-operand-requires-9 t)
     (truth-compare-requires-4 t)
@@ -1265,6 +997,3 @@ pub +integer+operand+quantified+sum+truth-spec : {M : Type 1} → statement M
     (truth-returns-9 t)
     (truth-returns-10 t)
     (truth-returns-11 t)
-    (truth-returns-12 t)
-    (truth-returns-13 t)
-    (truth-returns-14 t)
