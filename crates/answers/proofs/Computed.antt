@@ -22,7 +22,7 @@ use Rattle.table.specs.Records as Records
 
 -- the check
 unfoldable pub checked : List ℕ → Answers.Answer
-unfolding orElse Whole.eqZ Whole.least Whole.greatest Whole.between Whole.quotient Whole.remainder Whole.withinLimit Meaning.put Meaning.noSlot Meaning.noArray Meaning.slotAt Meaning.arrayAt Meaning.count Meaning.isOne Meaning.number Meaning.valueOf Meaning.elementValue Meaning.elementAt Meaning.valueI Meaning.calmValue Meaning.throughout Meaning.calmI Tables.asI Tables.asB Tables.treeAt Tables.treeI Tables.treeB Tables.fill Tables.treesAfter Tables.trees Tables.freeI Tables.freeIn Records.recordSize Records.firstLetter Records.secondLetter Records.signed Records.bitsOf Records.byteAt Records.wordAt Records.recordCount Records.marked Records.kindAt Records.auxAt Records.xAt Records.yAt Records.wordBytes Records.recordBytes Kinds.kinds Kinds.kindOf Kinds.arithmeticKind Kinds.divisionKind Kinds.connectiveKind Kinds.comparisonKind Kinds.quantifierKind Kinds.nodeBytes Sections.listed Sections.sortOfKind Sections.runEnd Sections.endOf Sections.behindArray Sections.arraysFrom Sections.arraysEnd Sections.variablesAt Sections.slotsAt Sections.arraysAt Sections.nodesAt Sections.constraintsAt Sections.restAt Sections.variableCount Sections.slotCount Sections.arrayRecords Sections.nodeCount Sections.constraintCount Sections.variableOf Sections.slotOf Sections.elementOf Sections.arrayOf Sections.declarations Sections.rowOf Sections.rows Sections.nodeTrees Sections.constraints Check.unless Check.firstFault Check.sameSort Check.isZero Check.isBit Check.near Check.names Check.isKind Check.variableSort Check.arraySort Check.nodeSort Check.headerFault Check.domainAllowed Check.variableFault Check.slotFault Check.arrayFault Check.constantAllowed Check.elementFault Check.fieldAllowed Check.fieldNames Check.fieldTyped Check.kindFault Check.nodeFault Check.closedIn Check.constraintFault Check.arraysFault Check.restFault Check.lengthAllowed Check.lengthFault Check.checkFault Answers.refused Answers.done Answers.check
+unfolding orElse Whole.eqZ Whole.least Whole.greatest Whole.between Whole.quotient Whole.remainder Whole.withinLimit Meaning.put Meaning.noSlot Meaning.noArray Meaning.slotAt Meaning.arrayAt Meaning.count Meaning.isOne Meaning.number Meaning.valueOf Meaning.elementValue Meaning.elementAt Meaning.valueI Meaning.calmValue Meaning.throughout Meaning.calmI Tables.asI Tables.asB Tables.treeAt Tables.treeI Tables.treeB Tables.fill Tables.treesAfter Tables.trees Tables.freeI Tables.freeIn Records.recordSize Records.firstLetter Records.secondLetter Records.signed Records.bitsOf Records.byteAt Records.wordAt Records.recordCount Records.marked Records.kindAt Records.auxAt Records.xAt Records.yAt Records.wordBytes Records.recordBytes Kinds.kinds Kinds.kindOf Kinds.rowIn Kinds.arithmeticKind Kinds.divisionKind Kinds.connectiveKind Kinds.comparisonKind Kinds.quantifierKind Kinds.nodeBytes Sections.listed Sections.sortOfKind Sections.runEnd Sections.endOf Sections.behindArray Sections.arraysFrom Sections.arraysEnd Sections.variablesAt Sections.slotsAt Sections.arraysAt Sections.nodesAt Sections.constraintsAt Sections.restAt Sections.variableCount Sections.slotCount Sections.arrayRecords Sections.nodeCount Sections.constraintCount Sections.variableOf Sections.slotOf Sections.elementOf Sections.arrayOf Sections.declarations Sections.rowOf Sections.rows Sections.nodeTrees Sections.constraints Check.unless Check.firstFault Check.sameSort Check.isZero Check.isBit Check.near Check.names Check.isKind Check.variableSort Check.arraySort Check.nodeSort Check.headerFault Check.domainAllowed Check.variableFault Check.slotFault Check.arrayFault Check.constantAllowed Check.elementFault Check.fieldAllowed Check.fieldNames Check.fieldTyped Check.kindFault Check.nodeFault Check.closedIn Check.constraintFault Check.arraysFault Check.restFault Check.lengthAllowed Check.lengthFault Check.checkFault Answers.refused Answers.done Answers.check
 checked table = Answers.check table
 
 -- evaluation

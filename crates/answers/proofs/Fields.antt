@@ -2,7 +2,6 @@
 -- Assumes nothing.
 use mathlib.Core.Path.{_≡_, refl, sym, ap, _∙_, subst}
 use Prim.Native.Nat.{ℕ, _+_, _<_}
-use mathlib.Core.Bool.{false}
 use mathlib.Core.List.{List}
 use mathlib.Core.Option.{Option, none, some}
 use lib.Dec.{T, ltb→lt, lt→ltb}
@@ -12,12 +11,12 @@ use lib.Signed.{nonNeg}
 use Rattle.numbers.proofs.Tests.{&&-intro, &&-fst, &&-snd}
 use Rattle.numbers.proofs.Division.{eqZ→≡, eqZ-refl}
 use Rattle.language.specs.Syntax.{Sort, boolean, integer}
-use Rattle.language.specs.Tables.{Row, truthRow}
+use Rattle.language.specs.Tables.{Row}
 use Rattle.language.specs.Meaning.{arrayAt}
 use Rattle.rules.specs.Bounds.{variableAt}
 use Rattle.rules.specs.Soundness.{sortOf}
 use Rattle.table.specs.Records.{kindAt, xAt, yAt}
-use Rattle.table.specs.Kinds.{Field, unused, anyNumber, truthValue, variableNumber, slotNumber, arrayNumber, nodeNumber, Kind, kindOf}
+use Rattle.table.specs.Kinds.{Field, unused, anyNumber, truthValue, variableNumber, slotNumber, arrayNumber, nodeNumber, Kind, kindOf, rowIn}
 use Rattle.answers.specs.Sections.{listed, nodesAt, variableCount, slotCount, arrayRecords, declarations, variableOf, arrayOf, rowOf}
 use Rattle.answers.specs.Check.{sameSort, isZero, names, variableSort, arraySort, nodeSort, fieldAllowed, fieldNames, fieldTyped}
 use Rattle.answers.proofs.Listed.{length-listed, getD-listed}
@@ -72,11 +71,11 @@ module _ (bs : List ℕ) where
 
   -- A row yields what its record's kind says.
   sortOf-rowOf : (p : ℕ) → sortOf (rowOf bs p) ≡ elim (kindOf (kindAt bs p)) [ none ↦ boolean | some k ↦ k .yields ]
-  unfolding rowOf sortOf
+  unfolding rowOf rowIn sortOf
   sortOf-rowOf p = go (kindOf (kindAt bs p)) refl
     where
       go : (o : Option Kind) → kindOf (kindAt bs p) ≡ o
-          → sortOf (elim o [ none ↦ truthRow false | some k ↦ k .row (xAt bs p) (yAt bs p) ]) ≡ elim o [ none ↦ boolean | some k ↦ k .yields ]
+          → sortOf (rowIn o (xAt bs p) (yAt bs p)) ≡ elim o [ none ↦ boolean | some k ↦ k .yields ]
       go none e = refl
       go (some k) e = kindOf-fits (kindAt bs p) k e .yields-its-sort (xAt bs p) (yAt bs p)
 

@@ -12,7 +12,7 @@ use Rattle.language.specs.Syntax.{boolean, integer}
 use Rattle.language.specs.Tables.{truthRow, Tree, whole, bool, treeAt, asI, asB, fill, trees, freeI, freeB, freeIn}
 use Rattle.language.proofs.Trees.{treeAt-take, tree-at}
 use Rattle.table.specs.Records.{kindAt, xAt, yAt}
-use Rattle.table.specs.Kinds.{Kind, kindOf}
+use Rattle.table.specs.Kinds.{Kind, kindOf, rowIn}
 use Rattle.answers.specs.Sections.{nodesAt, nodeCount, rowOf, rows, nodeTrees}
 use Rattle.answers.specs.Check.{nodeSort}
 use Rattle.answers.proofs.Declared.{length-rows, getD-rows}
@@ -31,12 +31,12 @@ free-boolean (bool e) s q = refl
 
 module _ (bs : List ℕ) where
   row-none : (p : ℕ) → kindOf (kindAt bs p) ≡ none → rowOf bs p ≡ truthRow false
-  unfolding rowOf
-  row-none p e = rw (e, rowOf)
+  unfolding rowOf rowIn
+  row-none p e = rw (e, rowOf, rowIn)
 
   pub row-some : (p : ℕ) {k : Kind} → kindOf (kindAt bs p) ≡ some k → rowOf bs p ≡ k .row (xAt bs p) (yAt bs p)
-  unfolding rowOf
-  row-some p e = rw (e, rowOf)
+  unfolding rowOf rowIn
+  row-some p e = rw (e, rowOf, rowIn)
 
   sort-none : (n : ℕ) → kindOf (kindAt bs (nodesAt bs + n)) ≡ none → nodeSort bs (pos n) ≡ boolean
   unfolding nodeSort

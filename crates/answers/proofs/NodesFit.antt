@@ -13,7 +13,7 @@ use Rattle.language.specs.Tables.{Row}
 use Rattle.rules.specs.Soundness.{RowFits, RowsFit}
 use Rattle.rules.proofs.Adding.{RowsFit-++}
 use Rattle.table.specs.Records.{kindAt, auxAt, xAt, yAt}
-use Rattle.table.specs.Kinds.{Field, Kind, kindOf}
+use Rattle.table.specs.Kinds.{Field, Kind, kindOf, rowIn}
 use Rattle.answers.specs.Sections.{listed, declarations, rowOf}
 use Rattle.answers.specs.Check.{fieldAllowed, fieldNames, fieldTyped, kindFault, nodeFault}
 use Rattle.answers.proofs.Faults.{neither, none-orElse, unless-none, none-unless}
@@ -73,9 +73,9 @@ module _ (bs : List ℕ) (n p : ℕ) where
 
   -- The row of a node without a fault fits behind the rows before it.
   pub NodePassed→RowFits : NodePassed bs n p → RowFits (declarations bs) (rowsBelow bs n) (rowOf bs p)
-  unfolding rowOf
+  unfolding rowOf rowIn
   NodePassed→RowFits h =
-      rw (h .kind-is, rowOf) (kindOf-fits (kindAt bs p) (h .kind) (h .kind-is) .fits (declarations bs) (rowsBelow bs n) (xAt bs p) (yAt bs p) (h .x-fits) (h .y-fits))
+      rw (h .kind-is, rowOf, rowIn) (kindOf-fits (kindAt bs p) (h .kind) (h .kind-is) .fits (declarations bs) (rowsBelow bs n) (xAt bs p) (yAt bs p) (h .x-fits) (h .y-fits))
 
 -- Rows fit where each fits behind those before it.
 pub RowsFit-listed : (Γ : Declarations) (n : ℕ) (f : ℕ → Row) → ((k : ℕ) → k < n → RowFits Γ (listed k f) (f k)) → RowsFit Γ [] (listed n f)

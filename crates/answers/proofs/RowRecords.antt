@@ -12,7 +12,7 @@ use Rattle.language.specs.Tables.{Row, constantRow, variableRow, slotRow, arith
 use Rattle.language.specs.Meaning.{isOne, number}
 use Rattle.rules.specs.Soundness.{RowFits}
 use Rattle.table.specs.Records.{ND, recordBytes}
-use Rattle.table.specs.Kinds.{slotNumber, nodeNumber, Kind, kind, two, kinds, kindOf, arithmeticKind, divisionKind, connectiveKind, comparisonKind, quantifierKind, nodeBytes}
+use Rattle.table.specs.Kinds.{slotNumber, nodeNumber, Kind, kind, two, kinds, kindOf, rowIn, arithmeticKind, divisionKind, connectiveKind, comparisonKind, quantifierKind, nodeBytes}
 use Rattle.answers.specs.Check.{isBit}
 use Rattle.table.proofs.ReadBack.{RecordIs}
 use Rattle.answers.specs.Sections.{declarations, rowOf}
@@ -170,8 +170,8 @@ rowKind (quantifyRow q s a) = record { kind = _; kind-is = kindOf-quantifier q; 
 module _ (bs : List ℕ) (p : ℕ) (r : Row) (is : RecordIs bs p ND (numberOf r) (xOf r) (yOf r)) where
   -- The record of a row is read as the row,
   pub rowOf-RecordIs : rowOf bs p ≡ r
-  unfolding rowOf
-  rowOf-RecordIs = rw (is .kind-is, rowKind r .kind-is, is .x-is, is .y-is, rowOf) (rowKind r .row-is)
+  unfolding rowOf rowIn
+  rowOf-RecordIs = rw (is .kind-is, rowKind r .kind-is, is .x-is, is .y-is, rowOf, rowIn) (rowKind r .row-is)
 
   -- and has no fault where the row fits behind those before it.
   pub RowFits→NodePassed : (n : ℕ) → RowFits (declarations bs) (rowsBelow bs n) r → NodePassed bs n p

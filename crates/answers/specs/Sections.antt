@@ -4,13 +4,12 @@
 use Prim.Native.Nat.{ℕ, zero, suc, _+_, _-_}
 use mathlib.Core.Bool.{true, false, cond}
 use mathlib.Core.List.{List, [], _∷_, _++_, map}
-use mathlib.Core.Option.{none, some}
 use lib.Dec.{eqb}
 use lib.IntN.{natAbs}
 use Rattle.language.specs.Syntax.{Sort, boolean, integer, Variable, Slot, Element, fixed, ofVariable, Array, Declarations}
-use Rattle.language.specs.Tables.{Row, truthRow, Tree, trees}
+use Rattle.language.specs.Tables.{Row, Tree, trees}
 use Rattle.table.specs.Records.{Mark, VR, SL, AR, ND, CN, marked, recordCount, kindAt, xAt, yAt}
-use Rattle.table.specs.Kinds.{kindOf}
+use Rattle.table.specs.Kinds.{kindOf, rowIn}
 
 -- f 0, f 1, .., f (n − 1)
 unfoldable pub listed : {A : Type 0} → ℕ → (ℕ → A) → List A
@@ -105,9 +104,9 @@ module _ (bs : List ℕ) where
         arrays = map arrayOf arrayRecords;
       }
 
-  -- the row of a node record; a kind that does not exist reads as false
+  -- the row of a node record
   unfoldable pub rowOf : ℕ → Row
-  rowOf p = elim (kindOf (kindAt bs p)) [ none ↦ truthRow false | some k ↦ k .row (xAt bs p) (yAt bs p) ]
+  rowOf p = rowIn (kindOf (kindAt bs p)) (xAt bs p) (yAt bs p)
 
   unfoldable pub rows : List Row
   rows = listed nodeCount (λ i. rowOf (nodesAt + i))

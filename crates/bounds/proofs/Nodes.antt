@@ -7,7 +7,7 @@ use mathlib.Core.Bool.{true, false, _&&_}
 use mathlib.Core.Logic.{⊎-elim}
 use lib.Dec.{T, leb→le}
 use mathlib.Core.List.{List}
-use mathlib.Core.Option.{Option, none, some}
+use mathlib.Core.Option.{Option, none}
 use lib.IntN.{ℤ, pos, natAbs}
 use lib.ListN.{set, replicate, List·getD-eq-default}
 use Rattle.numbers.specs.Whole.{withinLimit}
@@ -15,12 +15,12 @@ use Rattle.numbers.proofs.Naturals.{lt-or-ge}
 use Rattle.numbers.proofs.Tests.{&&-fst, &&-snd}
 use Rattle.numbers.proofs.Splits.{split}
 use Rattle.language.specs.Syntax.{constant, plus, minus, times, least, most, quot, rem, Declarations}
-use Rattle.language.specs.Tables.{Row, truthRow, Tree, whole, bool, asI, treeAt, treeI, fill, trees}
+use Rattle.language.specs.Tables.{truthRow, Tree, whole, bool, asI, treeAt, treeI, fill, trees}
 use Rattle.language.proofs.Trees.{length-trees, treeAt-take}
 use Rattle.language.specs.Meaning.{slotAt, arrayAt, count}
 use Rattle.rules.specs.Bounds.{Interval, _to_, only, arithInterval, divideInterval, slotInterval, variableInterval, elementsInterval, interval, withinBounds}
 use Rattle.table.specs.Records.{kindAt, xAt, yAt}
-use Rattle.table.specs.Kinds.{kinds, kindOf}
+use Rattle.table.specs.Kinds.{kinds, kindOf, rowIn}
 use Rattle.answers.specs.Sections.{listed, nodesAt, nodeCount, rowOf, rows, nodeTrees, declarations}
 use Rattle.answers.specs.Check.{refuse, unless, firstFault}
 use Rattle.answers.specs.Answers.{boundsFault}
@@ -47,10 +47,6 @@ module _ {Γ : Declarations} {ts : List Tree} {lows highs : List ℤ} (all : Kep
 abbrev pub NoInteger : ℕ → Type 0
 NoInteger k = ((((((((((((((Unit {0}) × (k ≡ 1 → ⊥)) × (k ≡ 3 → ⊥)) × (k ≡ 5 → ⊥)) × (k ≡ 6 → ⊥)) × (k ≡ 7 → ⊥)) × (k ≡ 8 → ⊥)) × (k ≡ 9 → ⊥)) × (k ≡ 10 → ⊥)) × (k ≡ 11 → ⊥)) × (k ≡ 12 → ⊥)) × (k ≡ 13 → ⊥)) × (k ≡ 14 → ⊥)) × (k ≡ 15 → ⊥)) × (k ≡ 17 → ⊥)
 
--- the row of a record with this kind
-unfoldable rowFor : ℕ → ℤ → ℤ → Row
-rowFor k x y = elim (kindOf k) [ none ↦ truthRow false | some q ↦ q .row x y ]
-
 module _ (bs : List ℕ) (n : ℕ) {p : ℕ} (e : p ≡ nodesAt bs + n) where
   abbrev Γ : Declarations
   Γ = declarations bs
@@ -64,65 +60,65 @@ module _ (bs : List ℕ) (n : ℕ) {p : ℕ} (e : p ≡ nodesAt bs + n) where
   abbrev y : ℕ
   y = natAbs (yAt bs p)
 
-  ends-at : (k : ℕ) → kindAt bs p ≡ k → endsOf Γ (fill ts (rowFor k (xAt bs p) (yAt bs p))) ≡ nodeEnds bs n
-  unfolding nodeEnds rowFor rowOf
+  ends-at : (k : ℕ) → kindAt bs p ≡ k → endsOf Γ (fill ts (rowIn (kindOf k) (xAt bs p) (yAt bs p))) ≡ nodeEnds bs n
+  unfolding nodeEnds rowIn rowOf
   ends-at k h = rw (← h, e)
 
   -- an integer node's interval, by its kind
   pub constant-ends : kindAt bs p ≡ 1 → only (xAt bs p) ≡ nodeEnds bs n
-  unfolding endsOf fill rowFor kindOf kinds asI interval
+  unfolding endsOf fill rowIn kindOf kinds asI interval
   constant-ends h = ends-at 1 h
 
   pub variable-ends : kindAt bs p ≡ 3 → variableInterval Γ x ≡ nodeEnds bs n
-  unfolding endsOf fill rowFor kindOf kinds asI interval
+  unfolding endsOf fill rowIn kindOf kinds asI interval
   variable-ends h = ends-at 3 h
 
   pub slot-ends : kindAt bs p ≡ 5 → slotInterval (slotAt Γ x) ≡ nodeEnds bs n
-  unfolding endsOf fill rowFor kindOf kinds asI interval
+  unfolding endsOf fill rowIn kindOf kinds asI interval
   slot-ends h = ends-at 5 h
 
   pub plus-ends : kindAt bs p ≡ 6 → arithInterval plus (interval Γ (treeI ts x)) (interval Γ (treeI ts y)) ≡ nodeEnds bs n
-  unfolding endsOf fill rowFor kindOf kinds asI interval
+  unfolding endsOf fill rowIn kindOf kinds asI interval
   plus-ends h = ends-at 6 h
 
   pub minus-ends : kindAt bs p ≡ 7 → arithInterval minus (interval Γ (treeI ts x)) (interval Γ (treeI ts y)) ≡ nodeEnds bs n
-  unfolding endsOf fill rowFor kindOf kinds asI interval
+  unfolding endsOf fill rowIn kindOf kinds asI interval
   minus-ends h = ends-at 7 h
 
   pub times-ends : kindAt bs p ≡ 8 → arithInterval times (interval Γ (treeI ts x)) (interval Γ (treeI ts y)) ≡ nodeEnds bs n
-  unfolding endsOf fill rowFor kindOf kinds asI interval
+  unfolding endsOf fill rowIn kindOf kinds asI interval
   times-ends h = ends-at 8 h
 
   pub quotient-ends : kindAt bs p ≡ 9 → divideInterval quot (interval Γ (treeI ts x)) (interval Γ (treeI ts y)) ≡ nodeEnds bs n
-  unfolding endsOf fill rowFor kindOf kinds asI interval
+  unfolding endsOf fill rowIn kindOf kinds asI interval
   quotient-ends h = ends-at 9 h
 
   pub remainder-ends : kindAt bs p ≡ 10 → divideInterval rem (interval Γ (treeI ts x)) (interval Γ (treeI ts y)) ≡ nodeEnds bs n
-  unfolding endsOf fill rowFor kindOf kinds asI interval
+  unfolding endsOf fill rowIn kindOf kinds asI interval
   remainder-ends h = ends-at 10 h
 
   pub negate-ends : kindAt bs p ≡ 11 → opposite (interval Γ (treeI ts x)) ≡ nodeEnds bs n
-  unfolding endsOf fill rowFor kindOf kinds asI interval
+  unfolding endsOf fill rowIn kindOf kinds asI interval
   negate-ends h = ends-at 11 h
 
   pub least-ends : kindAt bs p ≡ 12 → arithInterval least (interval Γ (treeI ts x)) (interval Γ (treeI ts y)) ≡ nodeEnds bs n
-  unfolding endsOf fill rowFor kindOf kinds asI interval
+  unfolding endsOf fill rowIn kindOf kinds asI interval
   least-ends h = ends-at 12 h
 
   pub most-ends : kindAt bs p ≡ 13 → arithInterval most (interval Γ (treeI ts x)) (interval Γ (treeI ts y)) ≡ nodeEnds bs n
-  unfolding endsOf fill rowFor kindOf kinds asI interval
+  unfolding endsOf fill rowIn kindOf kinds asI interval
   most-ends h = ends-at 13 h
 
   pub boolToInt-ends : kindAt bs p ≡ 14 → (pos 0 to pos 1) ≡ nodeEnds bs n
-  unfolding endsOf fill rowFor kindOf kinds asI interval
+  unfolding endsOf fill rowIn kindOf kinds asI interval
   boolToInt-ends h = ends-at 14 h
 
   pub lookup-ends : kindAt bs p ≡ 15 → elementsInterval Γ (arrayAt Γ x .elements) ≡ nodeEnds bs n
-  unfolding endsOf fill rowFor kindOf kinds asI interval
+  unfolding endsOf fill rowIn kindOf kinds asI interval
   lookup-ends h = ends-at 15 h
 
   pub sum-ends : kindAt bs p ≡ 17 → repeated (count (slotAt Γ x)) (interval Γ (treeI ts y)) ≡ nodeEnds bs n
-  unfolding endsOf fill rowFor kindOf kinds asI interval
+  unfolding endsOf fill rowIn kindOf kinds asI interval
   sum-ends h = ends-at 17 h
 
   -- A node of no integer kind keeps 0..0.
@@ -130,7 +126,7 @@ module _ (bs : List ℕ) (n : ℕ) {p : ℕ} (e : p ≡ nodesAt bs + n) where
   Other k = NoInteger k → kindAt bs p ≡ k → (pos 0 to pos 0) ≡ nodeEnds bs n
 
   pub other-ends : (k : ℕ) → Other k
-  unfolding endsOf fill rowFor kindOf kinds asI interval only
+  unfolding endsOf fill rowIn kindOf kinds asI interval only
   other-ends =
       split 31 Other
       ((λ o h. ends-at 0 h), ((λ o h. absurd (o .0 .0 .0 .0 .0 .0 .0 .0 .0 .0 .0 .0 .0 .1 refl)), ((λ o h. ends-at 2 h), ((λ o h. absurd (o .0 .0 .0 .0 .0 .0 .0 .0 .0 .0 .0 .0 .1 refl)), ((λ o h. ends-at 4 h), ((λ o h. absurd (o .0 .0 .0 .0 .0 .0 .0 .0 .0 .0 .0 .1 refl)), ((λ o h. absurd (o .0 .0 .0 .0 .0 .0 .0 .0 .0 .0 .1 refl)), ((λ o h. absurd (o .0 .0 .0 .0 .0 .0 .0 .0 .0 .1 refl)), ((λ o h. absurd (o .0 .0 .0 .0 .0 .0 .0 .0 .1 refl)), ((λ o h. absurd (o .0 .0 .0 .0 .0 .0 .0 .1 refl)), ((λ o h. absurd (o .0 .0 .0 .0 .0 .0 .1 refl)), ((λ o h. absurd (o .0 .0 .0 .0 .0 .1 refl)), ((λ o h. absurd (o .0 .0 .0 .0 .1 refl)), ((λ o h. absurd (o .0 .0 .0 .1 refl)), ((λ o h. absurd (o .0 .0 .1 refl)), ((λ o h. absurd (o .0 .1 refl)), ((λ o h. ends-at 16 h), ((λ o h. absurd (o .1 refl)), ((λ o h. ends-at 18 h), ((λ o h. ends-at 19 h), ((λ o h. ends-at 20 h), ((λ o h. ends-at 21 h), ((λ o h. ends-at 22 h), ((λ o h. ends-at 23 h), ((λ o h. ends-at 24 h), ((λ o h. ends-at 25 h), ((λ o h. ends-at 26 h), ((λ o h. ends-at 27 h), ((λ o h. ends-at 28 h), ((λ o h. ends-at 29 h), ((λ o h. ends-at 30 h), tt)))))))))))))))))))))))))))))))

@@ -2,7 +2,7 @@
 -- Assumes nothing.
 use mathlib.Core.Path.{_≡_, refl, sym, ap, _∙_}
 use mathlib.Core.Logic.{⊎-elim}
-use Prim.Native.Nat.{ℕ, _+_, _-_, _≤_, _<_}
+use Prim.Native.Nat.{ℕ, _+_, _≤_, _<_}
 use native.Mathlib.Omega.{arith}
 use mathlib.Core.Bool.{Bool, true, false, cond}
 use mathlib.Core.List.{List, _++_}
@@ -18,11 +18,10 @@ use Rattle.answers.specs.Check.{Refusal, refuse, checkFault}
 use Rattle.answers.specs.Answers as Answers
 use Rattle.answers.specs.Answers.{Outcome, refused, outcome, readingOf, underChoice, assignmentFault, totalCost, allCalm, verdicts, evaluationFault, evaluateUnder, allOne}
 use Rattle.answers.proofs.Faults.{orElse-none, orElse-some, none-orElse, none-cond}
-use Rattle.layout.proofs.Checked.{checked}
 use Rattle.steps.specs.Capped.{pastBudgets, capped}
 use Rattle.steps.proofs.Caps.{capped-low, capped-high}
 use Rattle.soundness.proofs.Sound.{answered→fault}
-use Rattle.verdict.proofs.Soundness.{sound-none, unsound-some}
+use Rattle.verdict.proofs.Soundness.{unsound-some}
 use Rattle.verdict.specs.declared.Check.{Check}
 use Rattle.verdict.specs.Results as Verdict
 use Rattle.verdict.specs.Results.{isNone}
@@ -99,11 +98,6 @@ admitted-room table α budget room e =
     leb→le (length (constraints table)) room (none-cond (leb (length (constraints table)) room) _ (none-orElse _ _ (none-orElse (assignmentFault table α) _ (sym e) .1) .0))
 
 -- ---- the refusals, in order
-
--- A table that the check calls sound has no fault.
-pub sound→checked : (table : List ℕ) (c : Check) {b : Bool} → Verdict.answerOf c ≡ Answers.check table → b ≡ isNone (Verdict.refusalOf c)
-    → b ≡ true → checkFault table ≡ none
-sound→checked table c e q f = sym (answered→fault table c e) ∙ sound-none (Verdict.refusalOf c) q f
 
 -- the last of four faults, apart from the others
 orElse-apart : (a b c d : Option Refusal) → orElse a (orElse b (orElse c d)) ≡ orElse (orElse a (orElse b c)) d

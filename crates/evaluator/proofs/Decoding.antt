@@ -4,7 +4,7 @@ use mathlib.Core.Path.{_≡_, refl, sym, ap, subst, _∙_}
 use Prim.Native.Nat.{ℕ, zero, suc}
 use mathlib.Core.Bool.{Bool, false, not, _||_}
 use mathlib.Core.List.{List, [], _∷_}
-use mathlib.Core.Option.{Option, none, some}
+use mathlib.Core.Option.{Option, none}
 use lib.Dec.{T, eqb}
 use lib.IntN.{ℤ, pos}
 use lib.ListN.{getD}
@@ -13,9 +13,9 @@ use mir.Val.{SFits, ofZ}
 use native.Mathlib.Omega.{arith}
 use Rattle.numbers.specs.Whole.{eqZ}
 use Rattle.numbers.proofs.Widths.{eq-bits}
-use Rattle.language.specs.Tables.{Row, truthRow}
+use Rattle.language.specs.Tables.{Row}
 use Rattle.language.specs.Meaning.{Assignment, Setting, isOne}
-use Rattle.table.specs.Kinds.{Kind, kinds, kindOf}
+use Rattle.table.specs.Kinds.{Kind, kinds, kindOf, rowIn}
 use Rattle.table.specs.Records.{kindAt, xAt, yAt}
 use Rattle.answers.specs.Sections.{rowOf}
 use Rattle.operations.specs.declared.values.Value.the-variants.{Integer, Truth}
@@ -25,23 +25,11 @@ use Rattle.evaluator.specs.declared.lookups.Leaf.the-variants.{Other}
 use Rattle.evaluator.specs.Nodes.{integerCase, truthCase}
 use Rattle.evaluator.specs.Walks.{leafOf}
 
--- the row of a record with that kind and those fields
-unfoldable pub rowIn : Option Kind → ℤ → ℤ → Row
-rowIn none x y = truthRow false
-rowIn (some k) x y = k .row x y
-
-rowOf-in : (bs : List ℕ) (p : ℕ) → rowOf bs p ≡ rowIn (kindOf (kindAt bs p)) (xAt bs p) (yAt bs p)
-unfolding rowOf rowIn
-rowOf-in bs p = by-kind (kindOf (kindAt bs p))
-  where
-    by-kind : (o : Option Kind) → elim o [ none ↦ truthRow false | some k ↦ k .row (xAt bs p) (yAt bs p) ] ≡ rowIn o (xAt bs p) (yAt bs p)
-    by-kind none = refl
-    by-kind (some k) = refl
-
 -- What a row of kind k is decoded to, the row of a record of that kind is decoded to.
 pub of-kind : {A : Type 0} (decode : Row → A) (f : ℤ → ℤ → A) (bs : List ℕ) (p k : ℕ) → kindAt bs p ≡ k →
     ((x y : ℤ) → f x y ≡ decode (rowIn (kindOf k) x y)) → f (xAt bs p) (yAt bs p) ≡ decode (rowOf bs p)
-of-kind decode f bs p k e h = h (xAt bs p) (yAt bs p) ∙ rw (rowOf-in bs p, e)
+unfolding rowOf
+of-kind decode f bs p k e h = h (xAt bs p) (yAt bs p) ∙ rw e
 
 -- ---- other kinds
 

@@ -24,7 +24,7 @@ use Rattle.nodes.specs.Facts.{basesOf, limitsOf, placeOf, typed, looked,
 use Rattle.answers.proofs.KindRows.{binder}
 use Rattle.answers.proofs.NodeTrees.{sort-some, tree-free}
 use Rattle.nodes.specs.Known.{has, NodeFact, Known}
-use Rattle.nodes.proofs.SlotSets.{has-all, has-others, has-joined}
+use Rattle.nodes.proofs.SlotSets.{and-false, has-all, has-others, has-joined}
 use Rattle.nodes.proofs.Operands.{Operand, inLimit, factAt, tag-small, operand}
 
 -- ---- one field
@@ -35,10 +35,6 @@ pub data Outcome (allowed named right plain : Bool) : Looked → Type 0 where
   other : allowed ≡ true → named ≡ true → right ≡ false → Outcome allowed named right plain OtherType
   shut : plain ≡ true → allowed ≡ false → Outcome allowed named right plain Beyond
   nothing : plain ≡ false → allowed ≡ true → named ≡ false → Outcome allowed named right plain Beyond
-
-and-false : (b : Bool) → (b && false) ≡ false
-and-false true = refl
-and-false false = refl
 
 or-true : (b : Bool) → (b || true) ≡ true
 or-true true = refl

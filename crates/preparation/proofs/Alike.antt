@@ -3,28 +3,16 @@
 use mathlib.Core.Path.{_≡_}
 use Prim.Native.Nat.{ℕ, suc, _+_, _-_, _*_, _≤_, _<_}
 use native.Mathlib.Omega.{arith}
-use mathlib.Core.Bool.{false}
 use mathlib.Core.List.{List}
-use mathlib.Core.Option.{none, some}
-use lib.IntN.{ℤ, natAbs}
+use lib.IntN.{natAbs}
 use lib.ListN.{length, replicate}
 use Rattle.numbers.specs.Limits.{mostBytes}
-use Rattle.language.specs.Tables.{Row, truthRow}
 use Rattle.table.specs.Records.{recordSize, recordCount, yAt}
-use Rattle.table.specs.Kinds.{kindOf}
 use Rattle.table.proofs.Alike.{Alike, Alike-left, kindAt-alike, xAt-alike, yAt-alike}
 use Rattle.answers.specs.Sections.{elementOf, arrayOf, behindArray, rowOf}
 use Rattle.answers.proofs.Listed.{listed-agree}
 use Rattle.answers.proofs.SameFaults.{elementOf-alike}
 use Rattle.preparation.specs.Prepared.{padded}
-
--- the row of a kind and two numbers
-rowBy : ℕ → ℤ → ℤ → Row
-rowBy k x y = elim (kindOf k) [ none ↦ truthRow false | some K ↦ K .row x y ]
-
--- the same kind and numbers give the same row
-rowBy-same : {j k : ℕ} {x y u v : ℤ} → j ≡ k → x ≡ u → y ≡ v → rowBy j x y ≡ rowBy k u v
-rowBy-same e f g = cc
 
 module _ (bs : List ℕ) (records : length bs ≡ recordSize * recordCount bs) where
   -- A record of the table,
@@ -34,8 +22,8 @@ module _ (bs : List ℕ) (records : length bs ≡ recordSize * recordCount bs) w
 
   -- a node's row,
   pub rowOf-padded : (k : ℕ) → k < recordCount bs → rowOf (padded bs) k ≡ rowOf bs k
-  unfolding rowOf rowBy
-  rowOf-padded k h = let a = padded-alike k h in rowBy-same (kindAt-alike a) (xAt-alike a) (yAt-alike a)
+  unfolding rowOf
+  rowOf-padded k h = let a = padded-alike k h in rw (kindAt-alike a, xAt-alike a, yAt-alike a)
 
   -- the record behind an array's elements,
   pub behindArray-padded : (k : ℕ) → k < recordCount bs → behindArray (padded bs) k ≡ behindArray bs k

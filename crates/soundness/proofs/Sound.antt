@@ -1,9 +1,9 @@
 -- An answer of the check tells its fault: the public check's promise, read as what the calls behind it rely on.
 -- Assumes nothing.
-use mathlib.Core.Path.{_≡_, refl, ap}
+use mathlib.Core.Path.{_≡_, refl, sym, ap, _∙_}
 use Prim.Native.Nat.{ℕ, _≤_}
 use native.Mathlib.Omega.{arith}
-use mathlib.Core.Bool.{false}
+use mathlib.Core.Bool.{Bool, true, false}
 use mathlib.Core.List.{List}
 use mathlib.Core.Option.{Option, none, some}
 use Rattle.answers.specs.Check.{Refusal, checkFault}
@@ -12,7 +12,8 @@ use Rattle.answers.specs.Answers.{Answer, done, refused}
 use Rattle.answers.proofs.Numbers.{upTo, upTo→1≤, Numbered, Numbered-check}
 use Rattle.verdict.specs.declared.Check.{Check}
 use Rattle.verdict.specs.declared.Check.the-variants.{Sound, BadLength, Misplaced, NotAllowed, NamesNothing, WrongType, OpenConstraint}
-use Rattle.verdict.specs.Results.{refusalOf, answerOf}
+use Rattle.verdict.specs.Results.{isNone, refusalOf, answerOf}
+use Rattle.verdict.proofs.Soundness.{sound-none}
 
 refusalOf-numbered : (c : Check) → Numbered (upTo 6) (refusalOf c)
 refusalOf-numbered Sound = tt
@@ -42,3 +43,7 @@ told-injective (some r) (some q) a b e = same r q (ap (λ (x : Answer). x .numbe
 pub answered→fault : (bs : List ℕ) (c : Check) → answerOf c ≡ Answers.check bs → refusalOf c ≡ checkFault bs
 unfolding answerOf Answers.check
 answered→fault bs c e = told-injective (refusalOf c) (checkFault bs) (refusalOf-numbered c) (Numbered-check (upTo 6) tt tt tt tt tt tt bs) e
+
+-- A table that the check calls sound has no fault.
+pub sound→checked : (table : List ℕ) (c : Check) {b : Bool} → answerOf c ≡ Answers.check table → b ≡ isNone (refusalOf c) → b ≡ true → checkFault table ≡ none
+sound→checked table c e q f = sym (answered→fault table c e) ∙ sound-none (refusalOf c) q f

@@ -1,6 +1,7 @@
 -- "One small table of kinds says which operands each kind takes and what it yields."
 -- Assumes nothing.
 use Prim.Native.Nat.{ℕ}
+use mathlib.Core.Bool.{false}
 use mathlib.Core.List.{List, [], _∷_}
 use mathlib.Core.Option.{Option, none, some}
 use lib.IntN.{ℤ, pos, natAbs}
@@ -76,6 +77,11 @@ kinds =
 
 unfoldable pub kindOf : ℕ → Option Kind
 kindOf k = getD kinds k none
+
+-- the row of a record of that kind with those fields; a kind that does not exist reads as false
+unfoldable pub rowIn : Option Kind → ℤ → ℤ → Row
+rowIn none x y = truthRow false
+rowIn (some k) x y = k .row x y
 
 -- ---- the record of a row
 

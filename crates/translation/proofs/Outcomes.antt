@@ -26,7 +26,7 @@ use Rattle.bounds.specs.Kept.{refusalOf}
 use Rattle.layout.specs.Passed.{Passed}
 use Rattle.layout.proofs.Order.{ordered}
 use Rattle.soundness.proofs.Sound.{answered→fault}
-use Rattle.verdict.proofs.Soundness.{sound-none, unsound-some}
+use Rattle.verdict.proofs.Soundness.{unsound-some}
 use Rattle.verdict.specs.Results.{isNone}
 use Rattle.verdict.specs.declared.Check.{Check}
 use Rattle.verdict.specs.Results as Verdict
@@ -61,11 +61,6 @@ pub size-given : (records room : ℕ) {b : Bool} → b ≡ (leb (recordSize * re
 size-given records room e f = leb-true (recordSize * records) mostBytes (and-right (leb (recordSize * records) room) _ (sym e ∙ f))
 
 -- ---- the refusals, in order
-
--- A table that the check calls sound has no fault.
-pub sound→checked : (table : List ℕ) (c : Check) {b : Bool} → Verdict.answerOf c ≡ Answers.check table → b ≡ isNone (Verdict.refusalOf c)
-    → b ≡ true → checkFault table ≡ none
-sound→checked table c e q f = sym (answered→fault table c e) ∙ sound-none (Verdict.refusalOf c) q f
 
 -- The first fault stands among the things that are looked at.
 one-more : (o : Option Refusal) (own : Option ℕ) (k : ℕ) {r : Refusal} → (o ≡ some r → r .at < k)

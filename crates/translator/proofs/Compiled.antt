@@ -2,7 +2,7 @@
 -- Assumes nothing.
 use mathlib.Core.Path.{_≡_, refl}
 use Prim.Native.Nat.{ℕ, _+_, _*_}
-use mathlib.Core.Bool.{false, cond}
+use mathlib.Core.Bool.{cond}
 use mathlib.Core.List.{[], _∷_, map}
 use mathlib.Core.Option.{none, some}
 use lib.Dec.{eqb}
@@ -10,20 +10,15 @@ use lib.IntN.{ℤ, pos}
 use Rattle.numbers.proofs.Splits.{Below}
 use Rattle.language.specs.Syntax.{integer, iref, bref, fixed, Declarations}
 use Rattle.language.specs.Readings.{Reading, strict, kleene, relational}
-use Rattle.language.specs.Tables.{Row, truthRow}
 use Rattle.language.specs.Meaning.{arrayAt, noArray, isOne, number}
 use Rattle.rules.specs.Formulas.{divideV, divideD, inside, clamped, refuted, behind, settled, connectP, connectN, quantifyP, quantifyN}
 use Rattle.rules.specs.Rules.{Rule, rule, guard, index, last}
 use Rattle.rules.specs.Writing.{leaf, unary, binary, writeI, writeB, inTurn, writeRule}
 use Rattle.table.specs.Records.{bitsOf}
-use Rattle.table.specs.Kinds.{Field, unused, anyNumber, truthValue, variableNumber, slotNumber, arrayNumber, nodeNumber, kinds, kindOf, arithmeticKind, divisionKind, connectiveKind, comparisonKind, quantifierKind}
+use Rattle.table.specs.Kinds.{Field, unused, anyNumber, truthValue, variableNumber, slotNumber, arrayNumber, nodeNumber, kinds, kindOf, rowIn, arithmeticKind, divisionKind, connectiveKind, comparisonKind, quantifierKind}
 use Rattle.answers.specs.Sections.{listed}
 use Rattle.translator.specs.Cells.{Cell, cell, words, fields, unpacked, rowAt, rowsFrom}
-use Rattle.translator.specs.Plans.{ruleRows, plansWith, rulePlans, planOf, readingNumber, planIndex, planAt, planRows}
-
--- the row of a record with this kind
-unfoldable pub rowFor : ℕ → ℤ → ℤ → Row
-rowFor k x y = elim (kindOf k) [ none ↦ truthRow false | some q ↦ q .row x y ]
+use Rattle.translator.specs.Plans.{ruleRows, plansWith, rulePlans, planOf, planAt, planRows}
 
 -- an array whose first and last index are the references to them
 unfoldable pub references : Declarations
@@ -44,7 +39,7 @@ referenceX k = elim (kindOf k) [ none ↦ pos 6 | some q ↦ referenceOf (q .fie
 
 -- the rule of a kind over references; y is node 1, whose companions are references 4 and 5
 unfoldable pub symbolic : Reading → ℕ → Rule ℕ
-symbolic ρ k = rule ρ references (λ a. iref (2 + 2 * a)) (λ a. bref (3 + 2 * a)) (λ a. bref (2 + 2 * a)) (λ a. bref (3 + 2 * a)) (rowFor k (referenceX k) (pos 1))
+symbolic ρ k = rule ρ references (λ a. iref (2 + 2 * a)) (λ a. bref (3 + 2 * a)) (λ a. bref (2 + 2 * a)) (λ a. bref (3 + 2 * a)) (rowIn (kindOf k) (referenceX k) (pos 1))
 
 -- a row with the node's own kind
 abbrev pub owned : ℕ → Cell → Cell
@@ -61,7 +56,7 @@ abbrev pub Compiled : Reading → ℕ → Type 0
 Compiled ρ k = (k ≡ 2 → ⊥) → Right ρ k
 
 pub compiled : (ρ : Reading) → Below 31 (Compiled ρ)
-unfolding fields symbolic references referenceX referenceOf rowFor rule guard index last divideV divideD inside clamped refuted behind settled connectP connectN quantifyP quantifyN arrayAt noArray isOne number writeRule writeI writeB inTurn leaf unary binary bitsOf kindOf kinds arithmeticKind divisionKind connectiveKind comparisonKind quantifierKind planRows planAt planIndex readingNumber ruleRows rulePlans plansWith planOf rowsFrom rowAt unpacked listed
+unfolding fields symbolic references referenceX referenceOf rowIn rule guard index last divideV divideD inside clamped refuted behind settled connectP connectN quantifyP quantifyN arrayAt noArray isOne number writeRule writeI writeB inTurn leaf unary binary bitsOf kindOf kinds arithmeticKind divisionKind connectiveKind comparisonKind quantifierKind planRows planAt ruleRows rulePlans plansWith planOf rowsFrom rowAt unpacked listed
 compiled strict = ((λ h. record { rows = refl; first = refl; second = refl }), ((λ h. record { rows = refl; first = refl; second = refl }), ((λ h. absurd (h refl)), ((λ h. record { rows = refl; first = refl; second = refl }), ((λ h. record { rows = refl; first = refl; second = refl }), ((λ h. record { rows = refl; first = refl; second = refl }), ((λ h. record { rows = refl; first = refl; second = refl }), ((λ h. record { rows = refl; first = refl; second = refl }), ((λ h. record { rows = refl; first = refl; second = refl }), ((λ h. record { rows = refl; first = refl; second = refl }), ((λ h. record { rows = refl; first = refl; second = refl }), ((λ h. record { rows = refl; first = refl; second = refl }), ((λ h. record { rows = refl; first = refl; second = refl }), ((λ h. record { rows = refl; first = refl; second = refl }), ((λ h. record { rows = refl; first = refl; second = refl }), ((λ h. record { rows = refl; first = refl; second = refl }), ((λ h. record { rows = refl; first = refl; second = refl }), ((λ h. record { rows = refl; first = refl; second = refl }), ((λ h. record { rows = refl; first = refl; second = refl }), ((λ h. record { rows = refl; first = refl; second = refl }), ((λ h. record { rows = refl; first = refl; second = refl }), ((λ h. record { rows = refl; first = refl; second = refl }), ((λ h. record { rows = refl; first = refl; second = refl }), ((λ h. record { rows = refl; first = refl; second = refl }), ((λ h. record { rows = refl; first = refl; second = refl }), ((λ h. record { rows = refl; first = refl; second = refl }), ((λ h. record { rows = refl; first = refl; second = refl }), ((λ h. record { rows = refl; first = refl; second = refl }), ((λ h. record { rows = refl; first = refl; second = refl }), ((λ h. record { rows = refl; first = refl; second = refl }), ((λ h. record { rows = refl; first = refl; second = refl }), tt)))))))))))))))))))))))))))))))
 compiled kleene = ((λ h. record { rows = refl; first = refl; second = refl }), ((λ h. record { rows = refl; first = refl; second = refl }), ((λ h. absurd (h refl)), ((λ h. record { rows = refl; first = refl; second = refl }), ((λ h. record { rows = refl; first = refl; second = refl }), ((λ h. record { rows = refl; first = refl; second = refl }), ((λ h. record { rows = refl; first = refl; second = refl }), ((λ h. record { rows = refl; first = refl; second = refl }), ((λ h. record { rows = refl; first = refl; second = refl }), ((λ h. record { rows = refl; first = refl; second = refl }), ((λ h. record { rows = refl; first = refl; second = refl }), ((λ h. record { rows = refl; first = refl; second = refl }), ((λ h. record { rows = refl; first = refl; second = refl }), ((λ h. record { rows = refl; first = refl; second = refl }), ((λ h. record { rows = refl; first = refl; second = refl }), ((λ h. record { rows = refl; first = refl; second = refl }), ((λ h. record { rows = refl; first = refl; second = refl }), ((λ h. record { rows = refl; first = refl; second = refl }), ((λ h. record { rows = refl; first = refl; second = refl }), ((λ h. record { rows = refl; first = refl; second = refl }), ((λ h. record { rows = refl; first = refl; second = refl }), ((λ h. record { rows = refl; first = refl; second = refl }), ((λ h. record { rows = refl; first = refl; second = refl }), ((λ h. record { rows = refl; first = refl; second = refl }), ((λ h. record { rows = refl; first = refl; second = refl }), ((λ h. record { rows = refl; first = refl; second = refl }), ((λ h. record { rows = refl; first = refl; second = refl }), ((λ h. record { rows = refl; first = refl; second = refl }), ((λ h. record { rows = refl; first = refl; second = refl }), ((λ h. record { rows = refl; first = refl; second = refl }), ((λ h. record { rows = refl; first = refl; second = refl }), tt)))))))))))))))))))))))))))))))
 compiled relational = ((λ h. record { rows = refl; first = refl; second = refl }), ((λ h. record { rows = refl; first = refl; second = refl }), ((λ h. absurd (h refl)), ((λ h. record { rows = refl; first = refl; second = refl }), ((λ h. record { rows = refl; first = refl; second = refl }), ((λ h. record { rows = refl; first = refl; second = refl }), ((λ h. record { rows = refl; first = refl; second = refl }), ((λ h. record { rows = refl; first = refl; second = refl }), ((λ h. record { rows = refl; first = refl; second = refl }), ((λ h. record { rows = refl; first = refl; second = refl }), ((λ h. record { rows = refl; first = refl; second = refl }), ((λ h. record { rows = refl; first = refl; second = refl }), ((λ h. record { rows = refl; first = refl; second = refl }), ((λ h. record { rows = refl; first = refl; second = refl }), ((λ h. record { rows = refl; first = refl; second = refl }), ((λ h. record { rows = refl; first = refl; second = refl }), ((λ h. record { rows = refl; first = refl; second = refl }), ((λ h. record { rows = refl; first = refl; second = refl }), ((λ h. record { rows = refl; first = refl; second = refl }), ((λ h. record { rows = refl; first = refl; second = refl }), ((λ h. record { rows = refl; first = refl; second = refl }), ((λ h. record { rows = refl; first = refl; second = refl }), ((λ h. record { rows = refl; first = refl; second = refl }), ((λ h. record { rows = refl; first = refl; second = refl }), ((λ h. record { rows = refl; first = refl; second = refl }), ((λ h. record { rows = refl; first = refl; second = refl }), ((λ h. record { rows = refl; first = refl; second = refl }), ((λ h. record { rows = refl; first = refl; second = refl }), ((λ h. record { rows = refl; first = refl; second = refl }), ((λ h. record { rows = refl; first = refl; second = refl }), ((λ h. record { rows = refl; first = refl; second = refl }), tt)))))))))))))))))))))))))))))))

@@ -17,13 +17,13 @@ use Rattle.rules.specs.Formulas.{divideV, divideD, inside, clamped, refuted, be
 use Rattle.rules.specs.Rules.{Rule, rule, guard, index, last}
 use Rattle.rules.specs.Writing.{writeRule, writeB, leaf, unary, inTurn}
 use Rattle.table.specs.Records.{bitsOf}
-use Rattle.table.specs.Kinds.{kinds, kindOf}
+use Rattle.table.specs.Kinds.{kinds, kindOf, rowIn}
 use Rattle.answers.specs.Sections.{listed}
 use Rattle.translator.specs.Cells.{place, fields, resolve, unpacked, rowAt, rowsFrom}
-use Rattle.translator.specs.Plans.{ruleRows, plansWith, rulePlans, planOf, readingNumber, planIndex, planAt, planRows}
+use Rattle.translator.specs.Plans.{ruleRows, plansWith, rulePlans, planOf, planAt, planRows}
 use Rattle.translator.specs.Words.{literal, looksUp, nodeNumbers, nodeWords}
 use Rattle.translator.proofs.Moved.{moved, overI, overB, Fit, Over, moves-rule}
-use Rattle.translator.proofs.Compiled.{rowFor, references, referenceOf, referenceX, symbolic, owned, Compiled, compiled}
+use Rattle.translator.proofs.Compiled.{references, referenceOf, referenceX, symbolic, owned, Compiled, compiled}
 
 module _ (ρ : Reading) (Γ : Declarations) (firsts seconds : List ℕ) (x y : ℤ) (n : ℕ) where
   abbrev env : ℕ → List ℕ
@@ -44,14 +44,14 @@ module _ (ρ : Reading) (Γ : Declarations) (firsts seconds : List ℕ) (x y : �
 
   -- the node's rule over the companions of the nodes before it
   abbrev pub ruleOf : ℕ → Rule ℕ
-  ruleOf k = rule ρ Γ (λ a. iref (getD firsts a 0)) (λ a. bref (getD seconds a 0)) (λ a. bref (getD firsts a 0)) (λ a. bref (getD seconds a 0)) (rowFor k x y)
+  ruleOf k = rule ρ Γ (λ a. iref (getD firsts a 0)) (λ a. bref (getD seconds a 0)) (λ a. bref (getD firsts a 0)) (λ a. bref (getD seconds a 0)) (rowIn (kindOf k) x y)
 
   abbrev Ruled : ℕ → Type 0
   Ruled k = (k ≡ 2 → ⊥) → Over (env k) n (numbers k) (fit k) (symbolic ρ k) (ruleOf k)
 
 -- The rule over references, over the words, is the node's rule.
 ruled : (ρ : Reading) (Γ : Declarations) (firsts seconds : List ℕ) (x y : ℤ) (n : ℕ) → Below 31 (Ruled ρ Γ firsts seconds x y n)
-unfolding rule guard index last divideV divideD inside clamped refuted behind settled connectP connectN quantifyP quantifyN arrayAt noArray isOne number bitsOf kindOf kinds symbolic references referenceX referenceOf rowFor overI overB place nodeWords nodeNumbers literal looksUp
+unfolding rule guard index last divideV divideD inside clamped refuted behind settled connectP connectN quantifyP quantifyN arrayAt noArray isOne number bitsOf kindOf kinds symbolic references referenceX referenceOf rowIn overI overB place nodeWords nodeNumbers literal looksUp
 ruled strict Γ firsts seconds x y n = ((λ h. (refl, λ r. refl)), ((λ h. (refl, refl)), ((λ h. absurd (h refl)), ((λ h. (refl, refl)), ((λ h. (refl, λ r. refl)), ((λ h. (refl, refl)), ((λ h. (refl, refl)), ((λ h. (refl, refl)), ((λ h. (refl, refl)), ((λ h. (refl, refl)), ((λ h. (refl, refl)), ((λ h. (refl, refl)), ((λ h. (refl, refl)), ((λ h. (refl, refl)), ((λ h. (refl, refl)), ((λ h. (refl, refl)), ((λ h. (refl, λ r. refl)), ((λ h. (refl, refl)), ((λ h. (refl, λ r. refl)), ((λ h. (refl, λ r. refl)), ((λ h. (refl, λ r. refl)), ((λ h. (refl, λ r. refl)), ((λ h. (refl, λ r. refl)), ((λ h. (refl, λ r. refl)), ((λ h. (refl, λ r. refl)), ((λ h. (refl, λ r. refl)), ((λ h. (refl, λ r. refl)), ((λ h. (refl, λ r. refl)), ((λ h. (refl, λ r. refl)), ((λ h. (refl, λ r. refl)), ((λ h. (refl, λ r. refl)), tt)))))))))))))))))))))))))))))))
 ruled kleene Γ firsts seconds x y n = ((λ h. (refl, λ r. refl)), ((λ h. (refl, refl)), ((λ h. absurd (h refl)), ((λ h. (refl, refl)), ((λ h. (refl, λ r. refl)), ((λ h. (refl, refl)), ((λ h. (refl, refl)), ((λ h. (refl, refl)), ((λ h. (refl, refl)), ((λ h. (refl, refl)), ((λ h. (refl, refl)), ((λ h. (refl, refl)), ((λ h. (refl, refl)), ((λ h. (refl, refl)), ((λ h. (refl, refl)), ((λ h. (refl, refl)), ((λ h. (refl, λ r. refl)), ((λ h. (refl, refl)), ((λ h. (refl, λ r. refl)), ((λ h. (refl, λ r. refl)), ((λ h. (refl, λ r. refl)), ((λ h. (refl, λ r. refl)), ((λ h. (refl, λ r. refl)), ((λ h. (refl, λ r. refl)), ((λ h. (refl, λ r. refl)), ((λ h. (refl, λ r. refl)), ((λ h. (refl, λ r. refl)), ((λ h. (refl, λ r. refl)), ((λ h. (refl, λ r. refl)), ((λ h. (refl, λ r. refl)), ((λ h. (refl, λ r. refl)), tt)))))))))))))))))))))))))))))))
 ruled relational Γ firsts seconds x y n = ((λ h. (refl, λ r. refl)), ((λ h. (refl, refl)), ((λ h. absurd (h refl)), ((λ h. (refl, refl)), ((λ h. (refl, λ r. refl)), ((λ h. (refl, refl)), ((λ h. (refl, refl)), ((λ h. (refl, refl)), ((λ h. (refl, refl)), ((λ h. (refl, refl)), ((λ h. (refl, refl)), ((λ h. (refl, refl)), ((λ h. (refl, refl)), ((λ h. (refl, refl)), ((λ h. (refl, refl)), ((λ h. (refl, refl)), ((λ h. (refl, λ r. refl)), ((λ h. (refl, refl)), ((λ h. (refl, λ r. refl)), ((λ h. (refl, λ r. refl)), ((λ h. (refl, λ r. refl)), ((λ h. (refl, λ r. refl)), ((λ h. (refl, λ r. refl)), ((λ h. (refl, λ r. refl)), ((λ h. (refl, λ r. refl)), ((λ h. (refl, λ r. refl)), ((λ h. (refl, λ r. refl)), ((λ h. (refl, λ r. refl)), ((λ h. (refl, λ r. refl)), ((λ h. (refl, λ r. refl)), ((λ h. (refl, λ r. refl)), tt)))))))))))))))))))))))))))))))
@@ -88,7 +88,7 @@ module _ (Γ : Declarations) (firsts seconds : List ℕ) (x y : ℤ) (n : ℕ) w
   next = omega arith
 
   constant-writes : (ρ : Reading) → WritesPlan ρ Γ firsts seconds x y n 2
-  unfolding rule rowFor kindOf kinds writeRule writeB leaf unary inTurn fields bitsOf resolve place nodeWords nodeNumbers literal looksUp planRows planAt planIndex readingNumber ruleRows rulePlans plansWith planOf rowsFrom rowAt unpacked listed
+  unfolding rule rowIn kindOf kinds writeRule writeB leaf unary inTurn fields bitsOf resolve place nodeWords nodeNumbers literal looksUp planRows planAt ruleRows rulePlans plansWith planOf rowsFrom rowAt unpacked listed
   constant-writes strict = record { rows = rw (← next); first = next; second = omega arith }
   constant-writes kleene = record { rows = rw (← next); first = next; second = omega arith }
   constant-writes relational = record { rows = rw (← next); first = next; second = omega arith }

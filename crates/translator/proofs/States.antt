@@ -17,7 +17,6 @@ use Rattle.answers.proofs.Listed.{length-listed}
 use Rattle.translator.specs.Cells.{fields, resolve, rowAt, rowsFrom}
 use Rattle.translator.specs.Plans.{ruleRows, planAt, planRows}
 use Rattle.translator.specs.Words.{nodeWords}
-use Rattle.translator.proofs.Compiled.{rowFor}
 use Rattle.translator.proofs.Ruled.{WritesPlan, writes-plan}
 
 module _ (ρ : Reading) (Γ : Declarations) where
@@ -49,7 +48,7 @@ module _ (bs : List ℕ) (ρ : Reading) where
 
   -- One more node adds as many rows as its plan has.
   pub length-state-suc : (n : ℕ) {p : ℕ} → p ≡ nodesAt bs + n → kindAt bs p < 31 → length (state (n + 1) .rows) ≡ length (state n .rows) + planAt ρ (kindAt bs p) .count
-  unfolding step append ruleAfter rowOf rowFor planRows rowsFrom
+  unfolding step append ruleAfter rowOf planRows rowsFrom
   length-state-suc n {p} e h =
       ap (λ (t : Translated). length (t .rows)) (state-suc n)
       ∙ rw (← e) (length-append (state n .rows) (writeRule (ruleAfter ρ (declarations bs) (state n) (rowOf bs p)) (length (state n .rows)) .rows)

@@ -2,9 +2,7 @@
 -- rules themselves.
 -- Assumes nothing.
 use Prim.Native.Nat.{ℕ, _+_, _*_, _/_, _%_}
-use mathlib.Core.Bool.{cond}
-use mathlib.Core.List.{List, [], _∷_, _++_}
-use lib.Dec.{ltb}
+use mathlib.Core.List.{List, [], _∷_}
 use lib.ListN.{getD}
 use Rattle.language.specs.Readings.{Reading, strict, kleene, relational}
 use Rattle.translator.specs.Cells.{Cell, row, rowsFrom}
@@ -67,28 +65,19 @@ plansWith lookup conj disj implies comparison exists forall =
     ∷ exists ∷ forall
     ∷ []
 
--- strict, Kleene, relational
-unfoldable pub rulePlans : List ℕ
-rulePlans =
-    plansWith (plan 31 25 27 40) (plan 98 6 16 21) (plan 104 6 20 21) (plan 110 6 20 21) (plan 71 7 18 22) (plan 116 5 19 20) (plan 121 5 16 20)
-    ++ plansWith (plan 31 25 27 40) (plan 88 2 16 17) (plan 90 2 16 17) (plan 92 2 16 17) (plan 71 7 18 22) (plan 94 2 16 17) (plan 96 2 16 17)
-    ++ plansWith (plan 56 13 27 28) (plan 88 2 16 17) (plan 90 2 16 17) (plan 92 2 16 17) (plan 78 4 18 19) (plan 94 2 16 17) (plan 96 2 16 17)
+-- the plans of a reading by kind
+unfoldable pub rulePlans : Reading → List ℕ
+rulePlans strict = plansWith (plan 31 25 27 40) (plan 98 6 16 21) (plan 104 6 20 21) (plan 110 6 20 21) (plan 71 7 18 22) (plan 116 5 19 20) (plan 121 5 16 20)
+rulePlans kleene = plansWith (plan 31 25 27 40) (plan 88 2 16 17) (plan 90 2 16 17) (plan 92 2 16 17) (plan 71 7 18 22) (plan 94 2 16 17) (plan 96 2 16 17)
+rulePlans relational = plansWith (plan 56 13 27 28) (plan 88 2 16 17) (plan 90 2 16 17) (plan 92 2 16 17) (plan 78 4 18 19) (plan 94 2 16 17) (plan 96 2 16 17)
 
 -- a plan taken apart
 unfoldable pub planOf : ℕ → Plan
 planOf p = record { from = p % 256; count = p / 256 % 256; first = p / 65_536 % 256; second = p / 16_777_216 % 256 }
 
-unfoldable pub readingNumber : Reading → ℕ
-readingNumber strict = 0
-readingNumber kleene = 1
-readingNumber relational = 2
-
--- where a kind's plan stands; a kind beyond the last reads as kind 0, which does not exist
-unfoldable pub planIndex : Reading → ℕ → ℕ
-planIndex ρ k = 31 * readingNumber ρ + cond (ltb k 31) k 0
-
+-- the plan of a kind under a reading
 unfoldable pub planAt : Reading → ℕ → Plan
-planAt ρ k = planOf (getD rulePlans (planIndex ρ k) 0)
+planAt ρ k = planOf (getD (rulePlans ρ) k 0)
 
 -- the rows of a kind under a reading
 unfoldable pub planRows : Reading → ℕ → List Cell

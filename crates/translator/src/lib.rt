@@ -4,7 +4,6 @@ ghost use Rattle.answers.specs.Answers.{newCount};
 ghost use Rattle.layout.specs.Passed.{Passed};
 ghost use Rattle.sections.specs.Places.{placesOf};
 ghost use Rattle.reading.specs.Readings.{meant};
-use crate::plans::first_plan;
 use crate::plans::plan_at;
 use crate::plans::plans;
 use layout::fields::kind_at;
@@ -22,14 +21,13 @@ pub fn new_records(s: &[u8], at: Places, reading: Reading) -> usize
     requires { ⌜ at ≡ placesOf (now s) ⌝ }
     ensures { λ r. ⌜ r ≡ newCount (now (s .entry)) (meant reading) ⌝ }
 {
-    let plans = plans();
-    let start = first_plan(reading);
+    let plans = plans(reading);
     let nodes = at.nodes;
     let count = at.constraints - nodes;
     let mut total = nodes + (at.rest - at.constraints);
     let mut n = 0;
     while n < count {
-        let plan = plan_at(&plans, start, kind_at(s, nodes + n));
+        let plan = plan_at(&plans, kind_at(s, nodes + n));
         total += plan.count;
         n += 1;
     }

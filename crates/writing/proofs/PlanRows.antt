@@ -8,7 +8,7 @@ use lib.Dec.{T, leb, leb→le}
 use Rattle.numbers.proofs.Splits.{Below, below-at}
 use Rattle.language.specs.Readings.{Reading, strict, kleene, relational}
 use Rattle.translator.specs.declared.plans.Plan.{Plan}
-use Rattle.translator.specs.Plans.{ruleRows, plansWith, rulePlans, planOf, readingNumber, planIndex, planAt}
+use Rattle.translator.specs.Plans.{ruleRows, plansWith, rulePlans, planOf, planAt}
 
 -- kind k's rows are among the rows
 abbrev Within : Reading → ℕ → Type 0
@@ -16,7 +16,7 @@ Within ρ k = T (leb (planAt ρ k .from + planAt ρ k .count) 126)
 
 -- Every kind's are: one computed test.
 all-within : (ρ : Reading) → Below 31 (Within ρ)
-unfolding planAt planOf planIndex readingNumber rulePlans plansWith
+unfolding planAt planOf rulePlans plansWith
 all-within strict = (tt, (tt, (tt, (tt, (tt, (tt, (tt, (tt, (tt, (tt, (tt, (tt, (tt, (tt, (tt, (tt, (tt, (tt, (tt, (tt, (tt, (tt, (tt, (tt, (tt, (tt, (tt, (tt, (tt, (tt, (tt, tt)))))))))))))))))))))))))))))))
 all-within kleene = (tt, (tt, (tt, (tt, (tt, (tt, (tt, (tt, (tt, (tt, (tt, (tt, (tt, (tt, (tt, (tt, (tt, (tt, (tt, (tt, (tt, (tt, (tt, (tt, (tt, (tt, (tt, (tt, (tt, (tt, (tt, tt)))))))))))))))))))))))))))))))
 all-within relational = (tt, (tt, (tt, (tt, (tt, (tt, (tt, (tt, (tt, (tt, (tt, (tt, (tt, (tt, (tt, (tt, (tt, (tt, (tt, (tt, (tt, (tt, (tt, (tt, (tt, (tt, (tt, (tt, (tt, (tt, (tt, tt)))))))))))))))))))))))))))))))

@@ -16,7 +16,6 @@ use Rattle.translator.specs.Cells.{cellsBytes, fields, place, resolve, rowsFrom
 use Rattle.translator.specs.Plans.{ruleRows, planAt, planRows}
 use Rattle.translator.specs.Words.{nodeNumbers, nodeWords}
 use Rattle.translator.proofs.Cells.{map-++}
-use Rattle.translator.proofs.Compiled.{rowFor}
 use Rattle.translator.proofs.States.{state, state-zero, state-suc, node-writes, length-state-suc, new-count}
 use Rattle.numbers.proofs.Lists.{sets-++}
 use Rattle.writing.specs.Constraints.{constraintsOver}
@@ -33,7 +32,7 @@ module _ (bs : List ℕ) (ρ : Reading) where
 
   -- It adds its plan's rows, with its words in place.
   node-adds : (n : ℕ) {p : ℕ} → p ≡ nodesAt bs + n → kindAt bs p < 31 → Adds n (kindAt bs p) (nodeWords (declarations bs) (state bs ρ n .firsts) (state bs ρ n .seconds) (kindAt bs p) (xAt bs p) (yAt bs p))
-  unfolding step append ruleAfter rowOf rowFor
+  unfolding step append ruleAfter rowOf
   node-adds n {p} e h =
       let w = node-writes bs ρ n e h in
       let s = state-suc bs ρ n in

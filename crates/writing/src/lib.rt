@@ -21,7 +21,6 @@ use reading::Reading;
 use sections::Places;
 use table::MOST_RECORDS;
 use table::RECORD_SIZE;
-use translator::plans::first_plan;
 use translator::plans::plan_at;
 use translator::plans::plans;
 use translator::rows::put_rows;
@@ -39,11 +38,10 @@ pub fn put_nodes_and_constraints(s: &[u8], at: Places, reading: Reading, out: &m
     requires { ⌜ recordSize * newCount (now s) (meant reading) ≤ mostBytes ⌝ }
     ensures { λ r. ⌜ now (out .exit) ≡ sets (now (out .entry)) (recordSize * nodesAt (now (s .entry))) (newNodes (now (s .entry)) (meant reading) (translated (now (s .entry)) (meant reading) .rows) ++ newConstraints (now (s .entry)) (meant reading) (constraints (now (s .entry)))) ⌝ }
 {
-    let plans = plans();
+    let plans = plans(reading);
     let rows = rows();
     let codes = x_codes();
     let arrays = array_records(s, at);
-    let start = first_plan(reading);
     let mut firsts = [0u32; MOST_RECORDS];
     let mut seconds = [0u32; MOST_RECORDS];
     let nodes = at.nodes;
@@ -52,7 +50,7 @@ pub fn put_nodes_and_constraints(s: &[u8], at: Places, reading: Reading, out: &m
     let mut n = 0;
     while n < count {
         let kind = kind_at(s, nodes + n);
-        let plan = plan_at(&plans, start, kind);
+        let plan = plan_at(&plans, kind);
         let words = node_words(s, nodes + n, &codes, &arrays, &firsts, &seconds);
         put_rows(
             out,

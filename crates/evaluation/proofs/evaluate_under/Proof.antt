@@ -6,7 +6,8 @@ use borrow.Author.Tests.{not-true, not-false}
 use Rattle.layout.proofs.Checked.{checked}
 use Rattle.evaluation.specs.Results.{answerOf}
 use Rattle.evaluation.specs.Admissions.{admissionFault}
-use Rattle.evaluation.proofs.Outcomes.{admitted-room, sound→checked, refused-check, refused-before, after-walk}
+use Rattle.soundness.proofs.Sound.{sound→checked}
+use Rattle.evaluation.proofs.Outcomes.{admitted-room, refused-check, refused-before, after-walk}
 use Rattle.evaluation.proofs.evaluate_under.Statement.{statement}
 use Rattle.evaluation.proofs.evaluate_under.Tie as tie
 

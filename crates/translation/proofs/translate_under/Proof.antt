@@ -1,7 +1,8 @@
 -- `translation::translate_under` meets its contract.
 -- Assumes nothing.
 use Rattle.reading.specs.Readings.{meant}
-use Rattle.translation.proofs.Outcomes.{sound→checked, refused-check}
+use Rattle.soundness.proofs.Sound.{sound→checked}
+use Rattle.translation.proofs.Outcomes.{refused-check}
 use Rattle.translation.proofs.translate_under.Statement.{statement}
 use Rattle.translation.proofs.translate_under.Tie as tie
 

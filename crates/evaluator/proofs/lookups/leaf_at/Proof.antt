@@ -11,14 +11,14 @@ use mir.Syntax.{w32}
 use mir.Val.{SFits}
 use Rattle.numbers.proofs.Widths.{through, widened, arrives}
 use Rattle.language.specs.Meaning.{valueOf}
-use Rattle.table.specs.Kinds.{kinds, kindOf}
+use Rattle.table.specs.Kinds.{kinds, kindOf, rowIn}
 use Rattle.operations.specs.declared.values.Walked.{Walked}
 use Rattle.evaluator.specs.declared.lookups.Leaf.{Leaf}
 use Rattle.evaluator.specs.declared.lookups.Leaf.the-variants.{Is, Other}
 use Rattle.operations.specs.Values.{limitedTo}
 use Rattle.evaluator.specs.Nodes.{nodesFrom}
 use Rattle.evaluator.specs.Walks.{settingOf, leafOf}
-use Rattle.evaluator.proofs.Decoding.{rowIn, of-kind, leafKind, other-leaf}
+use Rattle.evaluator.proofs.Decoding.{of-kind, leafKind, other-leaf}
 use Rattle.evaluator.proofs.lookups.leaf_at.Statement.{statement}
 use Rattle.evaluator.proofs.lookups.leaf_at.Tie as tie
 

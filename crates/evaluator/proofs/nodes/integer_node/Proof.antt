@@ -7,13 +7,13 @@ use lib.IntN.{pos, natAbs}
 use mir.Facts.{toZ-ofZ}
 use borrow.Author.Needs.{needs, sfits-of}
 use borrow.Author.Tests.{ne-eqb}
-use Rattle.table.specs.Kinds.{kinds, kindOf}
+use Rattle.table.specs.Kinds.{kinds, kindOf, rowIn}
 use Rattle.operations.specs.declared.integers.Arithmetic.the-variants as arithmetic
 use Rattle.operations.specs.declared.integers.Division.the-variants as division
 use Rattle.operations.specs.declared.values.Value.the-variants.{Integer}
 use Rattle.evaluator.specs.declared.nodes.IntegerNode.the-variants as integer
 use Rattle.evaluator.specs.Nodes.{nodesFrom, node, variable, slot, array, integerCase}
-use Rattle.evaluator.proofs.Decoding.{rowIn, of-kind, integerKind, other-integer}
+use Rattle.evaluator.proofs.Decoding.{of-kind, integerKind, other-integer}
 use Rattle.evaluator.proofs.nodes.integer_node.Statement.{statement}
 use Rattle.evaluator.proofs.nodes.integer_node.Tie as tie
 

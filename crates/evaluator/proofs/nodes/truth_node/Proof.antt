@@ -7,12 +7,12 @@ use lib.IntN.{natAbs}
 use borrow.Author.Needs.{needs, sfits-of}
 use borrow.Author.Tests.{ne-eqb}
 use Rattle.language.specs.Meaning.{isOne}
-use Rattle.table.specs.Kinds.{kinds, kindOf}
+use Rattle.table.specs.Kinds.{kinds, kindOf, rowIn}
 use Rattle.operations.specs.declared.truths.Connective.the-variants as connective
 use Rattle.operations.specs.declared.values.Value.the-variants.{Truth}
 use Rattle.evaluator.specs.declared.nodes.TruthNode.the-variants as truth
 use Rattle.evaluator.specs.Nodes.{nodesFrom, node, variable, slot, array, truthCase}
-use Rattle.evaluator.proofs.Decoding.{rowIn, of-kind, truthKind, other-truth, is-one}
+use Rattle.evaluator.proofs.Decoding.{of-kind, truthKind, other-truth, is-one}
 use Rattle.evaluator.proofs.nodes.truth_node.Statement.{statement}
 use Rattle.evaluator.proofs.nodes.truth_node.Tie as tie
 

@@ -35,17 +35,11 @@ cast-kind-of c = search needs
 kind-of-requires : tie.Need-kind-of-requires Inv-loop μ-loop
 kind-of-requires c κs = search needs
 
-cast-word-of : tie.Need-cast-word-of Inv-loop μ-loop
-cast-word-of c = search needs
-
 word-of-requires : tie.Need-word-of-requires Inv-loop μ-loop
-word-of-requires c κs = search needs
-
-cast-word-of-2 : tie.Need-cast-word-of-2 Inv-loop μ-loop
-cast-word-of-2 c = search needs
+word-of-requires c κs = omega (arith, c .before .before .before .before .before .before .pre .0)
 
 word-of-requires-2 : tie.Need-word-of-requires-2 Inv-loop μ-loop
-word-of-requires-2 c κs = search needs
+word-of-requires-2 c κs = omega (arith, c .before .before .before .before .before .before .before .pre .0)
 
 mul-put-record : tie.Need-mul-put-record Inv-loop μ-loop
 unfolding recordSize
@@ -89,9 +83,7 @@ put-rows-spec =
     shared-slice-read-row
     cast-kind-of
     kind-of-requires
-    cast-word-of
     word-of-requires
-    cast-word-of-2
     word-of-requires-2
     mul-put-record
     add-put-record

@@ -8,8 +8,8 @@ use borrow.Author.Needs.{needs}
 use Rattle.translator.proofs.rows.word_of.Statement.{statement}
 use Rattle.translator.proofs.rows.word_of.Tie as tie
 
-index-requires : tie.Need-index-requires
-index-requires c κs = search needs
+cast-held : tie.Need-cast-held
+cast-held c = search needs
 
 mul-held : tie.Need-mul-held
 mul-held c = search needs
@@ -17,26 +17,15 @@ mul-held c = search needs
 element-copy-out-held : tie.Need-element-copy-out-held
 element-copy-out-held c = search needs
 
-wide-requires : tie.Need-wide-requires
-wide-requires c κs = search needs
-
 add-result : tie.Need-add-result
 add-result c = search needs
 
 returns : tie.Need-returns
-returns c = ap (λ i. getD (c .before .before .before .args .env .now) i 0) (c .before .before .index .ensures ∙ omega arith) ∙ sym (place-word (c .before .before .before .args .env .now) (c .before .before .before .args .base) (c .before .before .before .args .r) (c .if1 .taken))
+returns c = let e = c .before .before .args in ap (λ i. getD (e .env .now) i 0) (omega arith) ∙ sym (place-word (e .env .now) (e .base) (e .r) (c .if1 .taken))
 
 returns-2 : tie.Need-returns-2
-returns-2 c = omega (arith, c .wide .ensures, place-row (c .before .before .before .before .args .env .now) (c .before .before .before .before .args .base) (c .before .before .before .before .args .r) (c .before .if1 .left))
+returns-2 c = let e = c .before .before .args in omega (arith, place-row (e .env .now) (e .base) (e .r) (c .if1 .left))
 
 pub word-of-spec : {M : Type 1} → statement M
 word-of-spec =
-    tie.close
-    (tie.spec
-    index-requires
-    mul-held
-    element-copy-out-held
-    wide-requires
-    add-result
-    returns
-    returns-2)
+    tie.close (tie.spec cast-held mul-held element-copy-out-held add-result returns returns-2)
