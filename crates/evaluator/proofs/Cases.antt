@@ -17,10 +17,10 @@ use Rattle.language.proofs.Trees.{tree-at, NamesBelow}
 use Rattle.answers.specs.Sections.{listed}
 use Rattle.operations.specs.declared.values.Value.the-variants.{Truth}
 use Rattle.operations.specs.declared.values.Walked.{Walked}
-use Rattle.evaluator.specs.declared.nodes.IntegerNode.{IntegerNode}
-use Rattle.evaluator.specs.declared.nodes.IntegerNode.the-variants as integer
-use Rattle.evaluator.specs.declared.nodes.TruthNode.{TruthNode}
-use Rattle.evaluator.specs.declared.nodes.TruthNode.the-variants as truth
+use Rattle.evaluator.specs.declared.decoded.IntegerNode.{IntegerNode}
+use Rattle.evaluator.specs.declared.decoded.IntegerNode.the-variants as integer
+use Rattle.evaluator.specs.declared.decoded.TruthNode.{TruthNode}
+use Rattle.evaluator.specs.declared.decoded.TruthNode.the-variants as truth
 use Rattle.operations.specs.Values.{integerOf, ofCalm, limitedTo}
 use Rattle.operations.specs.Integers.{arithmeticOf, divisionOf, integers, negated, numbered}
 use Rattle.operations.specs.Truths.{connectiveOf, compared, connected, opposed}

@@ -19,8 +19,8 @@ use Rattle.table.specs.Kinds.{Kind, kinds, kindOf, rowIn}
 use Rattle.table.specs.Records.{kindAt, xAt, yAt}
 use Rattle.answers.specs.Sections.{rowOf}
 use Rattle.operations.specs.declared.values.Value.the-variants.{Integer, Truth}
-use Rattle.evaluator.specs.declared.nodes.IntegerNode.the-variants as integer
-use Rattle.evaluator.specs.declared.nodes.TruthNode.the-variants as truth
+use Rattle.evaluator.specs.declared.decoded.IntegerNode.the-variants as integer
+use Rattle.evaluator.specs.declared.decoded.TruthNode.the-variants as truth
 use Rattle.evaluator.specs.declared.lookups.Leaf.the-variants.{Other}
 use Rattle.evaluator.specs.Nodes.{integerCase, truthCase}
 use Rattle.evaluator.specs.Walks.{leafOf}

@@ -16,8 +16,8 @@ use Rattle.language.specs.Readings as readings
 use Rattle.language.specs.Meaning.{Assignment}
 use Rattle.answers.specs.Sections.{rowOf}
 use Rattle.operations.specs.declared.values.Walked.{Walked}
-use Rattle.evaluator.specs.declared.nodes.IntegerNode.{IntegerNode}
-use Rattle.evaluator.specs.declared.nodes.TruthNode.{TruthNode}
+use Rattle.evaluator.specs.declared.decoded.IntegerNode.{IntegerNode}
+use Rattle.evaluator.specs.declared.decoded.TruthNode.{TruthNode}
 use Rattle.evaluator.specs.declared.lookups.Leaf.{Leaf}
 use Rattle.evaluator.specs.declared.lookups.Leaf.the-variants.{Is}
 use Rattle.operations.specs.Values.{limitedTo}

@@ -15,10 +15,10 @@ use Rattle.operations.specs.declared.integers.Arithmetic.the-variants as arithm
 use Rattle.operations.specs.declared.integers.Division.the-variants as division
 use Rattle.operations.specs.declared.truths.Connective.the-variants as connective
 use Rattle.operations.specs.declared.values.Value.the-variants.{Integer, Truth}
-use Rattle.evaluator.specs.declared.nodes.IntegerNode.{IntegerNode}
-use Rattle.evaluator.specs.declared.nodes.IntegerNode.the-variants as integer
-use Rattle.evaluator.specs.declared.nodes.TruthNode.{TruthNode}
-use Rattle.evaluator.specs.declared.nodes.TruthNode.the-variants as truth
+use Rattle.evaluator.specs.declared.decoded.IntegerNode.{IntegerNode}
+use Rattle.evaluator.specs.declared.decoded.IntegerNode.the-variants as integer
+use Rattle.evaluator.specs.declared.decoded.TruthNode.{TruthNode}
+use Rattle.evaluator.specs.declared.decoded.TruthNode.the-variants as truth
 
 -- the record of node 0
 abbrev pub nodesFrom : List ℕ → ℕ

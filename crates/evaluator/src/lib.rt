@@ -1,6 +1,6 @@
 // The evaluator: the values of a table's nodes under a reading, and whether a number beyond the limit was met.
+pub mod decoded;
 pub mod lookups;
-pub mod nodes;
 pub mod ranges;
 pub mod records;
 pub mod walk;

@@ -12,7 +12,7 @@ ghost use Rattle.answers.specs.Check.{checkFault};
 ghost use Rattle.answers.specs.Answers.{translated, newNodes, newConstraints, newCount};
 ghost use Rattle.sections.specs.Places.{placesOf};
 ghost use Rattle.reading.specs.Readings.{meant};
-use crate::constraints::put_constraints;
+use crate::new_constraints::put_constraints;
 use crate::words::node_words;
 use kinds::x_codes;
 use layout::array_records;
@@ -27,7 +27,7 @@ use translator::rows::put_rows;
 use translator::rows::word_of;
 use translator::tables::rows;
 
-mod constraints;
+mod new_constraints;
 mod words;
 
 // Writes the new nodes and constraints behind the declarations of the new table.

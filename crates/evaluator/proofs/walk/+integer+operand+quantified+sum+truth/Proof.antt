@@ -50,8 +50,8 @@ use Rattle.evaluator.proofs.lookups.looked_up.Reads as looked-up-reads
 use Rattle.evaluator.proofs.lookups.looked_up_truth.Reads as looked-up-truth-reads
 use Rattle.evaluator.proofs.lookups.slot.Reads as slot-reads
 use Rattle.evaluator.proofs.lookups.variable.Reads as variable-reads
-use Rattle.evaluator.proofs.nodes.integer_node.Reads as integer-node-reads
-use Rattle.evaluator.proofs.nodes.truth_node.Reads as truth-node-reads
+use Rattle.evaluator.proofs.decoded.integer_node.Reads as integer-node-reads
+use Rattle.evaluator.proofs.decoded.truth_node.Reads as truth-node-reads
 use Rattle.operations.proofs.integers.calculate.Reads as calculate-reads
 use Rattle.operations.proofs.integers.divide.Reads as divide-reads
 use Rattle.operations.proofs.integers.negate.Reads as negate-reads

@@ -1,10 +1,10 @@
--- `evaluator::nodes::node_y` meets its contract.
+-- `evaluator::decoded::node_y` meets its contract.
 -- Assumes nothing.
 use mathlib.Core.Path.{ap}
 use borrow.Author.Needs.{needs}
 use Rattle.evaluator.specs.Nodes.{node}
-use Rattle.evaluator.proofs.nodes.node_y.Statement.{statement}
-use Rattle.evaluator.proofs.nodes.node_y.Tie as tie
+use Rattle.evaluator.proofs.decoded.node_y.Statement.{statement}
+use Rattle.evaluator.proofs.decoded.node_y.Tie as tie
 
 named-y-requires : tie.Need-named-y-requires
 named-y-requires c κs = search needs

@@ -1,4 +1,4 @@
--- `evaluator::nodes::integer_node` meets its contract, by the kind.
+-- `evaluator::decoded::integer_node` meets its contract, by the kind.
 -- Assumes nothing.
 use mathlib.Core.Path.{_≡_, refl, sym, ap, ap₂, _∙_}
 use Prim.Native.Nat.{ℕ, _+_}
@@ -11,11 +11,11 @@ use Rattle.table.specs.Kinds.{kinds, kindOf, rowIn}
 use Rattle.operations.specs.declared.integers.Arithmetic.the-variants as arithmetic
 use Rattle.operations.specs.declared.integers.Division.the-variants as division
 use Rattle.operations.specs.declared.values.Value.the-variants.{Integer}
-use Rattle.evaluator.specs.declared.nodes.IntegerNode.the-variants as integer
+use Rattle.evaluator.specs.declared.decoded.IntegerNode.the-variants as integer
 use Rattle.evaluator.specs.Nodes.{nodesFrom, node, variable, slot, array, integerCase}
 use Rattle.evaluator.proofs.Decoding.{of-kind, integerKind, other-integer}
-use Rattle.evaluator.proofs.nodes.integer_node.Statement.{statement}
-use Rattle.evaluator.proofs.nodes.integer_node.Tie as tie
+use Rattle.evaluator.proofs.decoded.integer_node.Statement.{statement}
+use Rattle.evaluator.proofs.decoded.integer_node.Tie as tie
 
 none-of : (k : ℕ) → (k ≡ 1 → ⊥) → (k ≡ 3 → ⊥) → (k ≡ 5 → ⊥) → (k ≡ 6 → ⊥) → (k ≡ 7 → ⊥) → (k ≡ 8 → ⊥) → (k ≡ 9 → ⊥) → (k ≡ 10 → ⊥) → (k ≡ 11 → ⊥) → (k ≡ 12 → ⊥) → (k ≡ 13 → ⊥) → (k ≡ 14 → ⊥) → (k ≡ 15 → ⊥) → (k ≡ 17 → ⊥) → integerKind k ≡ false
 unfolding integerKind

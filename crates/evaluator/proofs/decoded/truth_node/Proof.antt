@@ -1,4 +1,4 @@
--- `evaluator::nodes::truth_node` meets its contract, by the kind.
+-- `evaluator::decoded::truth_node` meets its contract, by the kind.
 -- Assumes nothing.
 use mathlib.Core.Path.{_≡_, refl, sym, ap, ap₂, _∙_}
 use Prim.Native.Nat.{ℕ, _+_}
@@ -10,11 +10,11 @@ use Rattle.language.specs.Meaning.{isOne}
 use Rattle.table.specs.Kinds.{kinds, kindOf, rowIn}
 use Rattle.operations.specs.declared.truths.Connective.the-variants as connective
 use Rattle.operations.specs.declared.values.Value.the-variants.{Truth}
-use Rattle.evaluator.specs.declared.nodes.TruthNode.the-variants as truth
+use Rattle.evaluator.specs.declared.decoded.TruthNode.the-variants as truth
 use Rattle.evaluator.specs.Nodes.{nodesFrom, node, variable, slot, array, truthCase}
 use Rattle.evaluator.proofs.Decoding.{of-kind, truthKind, other-truth, is-one}
-use Rattle.evaluator.proofs.nodes.truth_node.Statement.{statement}
-use Rattle.evaluator.proofs.nodes.truth_node.Tie as tie
+use Rattle.evaluator.proofs.decoded.truth_node.Statement.{statement}
+use Rattle.evaluator.proofs.decoded.truth_node.Tie as tie
 
 none-of : (k : ℕ) → (k ≡ 2 → ⊥) → (k ≡ 4 → ⊥) → (k ≡ 16 → ⊥) → (k ≡ 20 → ⊥) → (k ≡ 21 → ⊥) → (k ≡ 22 → ⊥) → (k ≡ 23 → ⊥) → (k ≡ 24 → ⊥) → (k ≡ 25 → ⊥) → (k ≡ 26 → ⊥) → (k ≡ 27 → ⊥) → (k ≡ 28 → ⊥) → (k ≡ 29 → ⊥) → (k ≡ 30 → ⊥) → truthKind k ≡ false
 unfolding truthKind

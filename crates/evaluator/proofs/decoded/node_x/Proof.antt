@@ -1,10 +1,10 @@
--- `evaluator::nodes::node_x` meets its contract.
+-- `evaluator::decoded::node_x` meets its contract.
 -- Assumes nothing.
 use mathlib.Core.Path.{ap}
 use borrow.Author.Needs.{needs}
 use Rattle.evaluator.specs.Nodes.{node}
-use Rattle.evaluator.proofs.nodes.node_x.Statement.{statement}
-use Rattle.evaluator.proofs.nodes.node_x.Tie as tie
+use Rattle.evaluator.proofs.decoded.node_x.Statement.{statement}
+use Rattle.evaluator.proofs.decoded.node_x.Tie as tie
 
 named-x-requires : tie.Need-named-x-requires
 named-x-requires c κs = search needs

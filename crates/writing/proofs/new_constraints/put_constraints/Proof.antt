@@ -1,4 +1,4 @@
--- `writing::constraints::put_constraints` meets its contract.
+-- `writing::new_constraints::put_constraints` meets its contract.
 -- Assumes nothing.
 use mathlib.Core.Path.{_≡_, refl, ap, _∙_}
 use Prim.Native.Nat.{_+_, _-_, _*_, _≤_}
@@ -10,8 +10,8 @@ use Rattle.table.specs.Records.{recordSize, recordCount, xAt}
 use Rattle.layout.proofs.Order.{laid}
 use Rattle.layout.proofs.Runs.{within-table}
 use Rattle.writing.proofs.ConstraintRecords.{recordsOf, length-constraints, none-put, one-more-put, all-put}
-use Rattle.writing.proofs.constraints.put_constraints.Statement.{statement}
-use Rattle.writing.proofs.constraints.put_constraints.Tie as tie
+use Rattle.writing.proofs.new_constraints.put_constraints.Statement.{statement}
+use Rattle.writing.proofs.new_constraints.put_constraints.Tie as tie
 
 abbrev Inv-loop : tie.InvT-loop
 Inv-loop s firsts from out₀ first count i₀ out i = (out ≡ sets out₀ (recordSize * from) (recordsOf s firsts from i)) × (length out ≡ length out₀) × (i ≤ count)
