@@ -19,7 +19,7 @@ use Rattle.rules.specs.Soundness.{IsNode}
 use Rattle.table.specs.Records.{kindAt, auxAt, xAt, yAt}
 use Rattle.table.specs.Kinds.{nodeNumber}
 use Rattle.answers.specs.Sections.{slotCount, nodeCount, rows, nodeTrees}
-use Rattle.answers.specs.Check.{isZero, names, sameSort, nodeSort, fieldAllowed, fieldNames, fieldTyped, closedIn, constraintFault}
+use Rattle.answers.specs.Check.{isZero, names, sameSort, nodeSort, fieldAllowed, fieldNames, fieldTyped, noFreeSlot, constraintFault}
 use Rattle.answers.proofs.Faults.{neither, none-orElse, unless-none, none-unless}
 use Rattle.answers.proofs.Fields.{passed→FieldFits, FieldFits→passed}
 
@@ -38,24 +38,24 @@ pub record ConstraintPassed (bs : List ℕ) (p : ℕ) : Type 0 where
 
 module _ (bs : List ℕ) where
   -- Where the test for free slots passes, none of them is free,
-  closedIn→free : (k n : ℕ) → T (closedIn bs k n) → (t : ℕ) → t < n → freeIn t (treeAt (nodeTrees bs) k) ≡ false
-  unfolding closedIn
-  closedIn→free k zero h t l = absurd (not-suc-le-zero l)
-  closedIn→free k (suc n) h t l =
-      go (closedIn→free k n (&&-fst (closedIn bs k n) (not (freeIn n (treeAt (nodeTrees bs) k))) h) t) (decLt t n)
+  noFreeSlot→free : (k n : ℕ) → T (noFreeSlot bs k n) → (t : ℕ) → t < n → freeIn t (treeAt (nodeTrees bs) k) ≡ false
+  unfolding noFreeSlot
+  noFreeSlot→free k zero h t l = absurd (not-suc-le-zero l)
+  noFreeSlot→free k (suc n) h t l =
+      go (noFreeSlot→free k n (&&-fst (noFreeSlot bs k n) (not (freeIn n (treeAt (nodeTrees bs) k))) h) t) (decLt t n)
     where
       go : (t < n → freeIn t (treeAt (nodeTrees bs) k) ≡ false) → Dec (t < n) → freeIn t (treeAt (nodeTrees bs) k) ≡ false
       go before (yes b) = before b
       go before (no b) =
           let e : t ≡ n = omega arith in
-          rw e (Tnot→≡false (freeIn n (treeAt (nodeTrees bs) k)) (&&-snd (closedIn bs k n) (not (freeIn n (treeAt (nodeTrees bs) k))) h))
+          rw e (Tnot→≡false (freeIn n (treeAt (nodeTrees bs) k)) (&&-snd (noFreeSlot bs k n) (not (freeIn n (treeAt (nodeTrees bs) k))) h))
 
   -- and where none is, it passes.
-  free→closedIn : (k n : ℕ) → ((t : ℕ) → t < n → freeIn t (treeAt (nodeTrees bs) k) ≡ false) → T (closedIn bs k n)
-  unfolding closedIn
-  free→closedIn k zero h = tt
-  free→closedIn k (suc n) h =
-      &&-intro (closedIn bs k n) (not (freeIn n (treeAt (nodeTrees bs) k))) (free→closedIn k n (λ t l. h t (omega arith))) (rw (h n (omega arith)) tt)
+  free→noFreeSlot : (k n : ℕ) → ((t : ℕ) → t < n → freeIn t (treeAt (nodeTrees bs) k) ≡ false) → T (noFreeSlot bs k n)
+  unfolding noFreeSlot
+  free→noFreeSlot k zero h = tt
+  free→noFreeSlot k (suc n) h =
+      &&-intro (noFreeSlot bs k n) (not (freeIn n (treeAt (nodeTrees bs) k))) (free→noFreeSlot k n (λ t l. h t (omega arith))) (rw (h n (omega arith)) tt)
 
   module _ (p : ℕ) where
     -- A constraint without a fault has passed,
@@ -74,7 +74,7 @@ module _ (bs : List ℕ) where
           y-is = eqZ→≡ (yAt bs p) (pos 0) (search &&-snd);
           nonneg = fits .0;
           node = fits .1;
-          closed = closedIn→free (natAbs x) (slotCount bs) (none-unless 6 _ (third .1));
+          closed = noFreeSlot→free (natAbs x) (slotCount bs) (none-unless 6 _ (third .1));
         }
 
     -- and one that has passed has no fault.
@@ -87,4 +87,4 @@ module _ (bs : List ℕ) where
         (unless-none 3 (eqb (kindAt bs p) 0 && eqb (auxAt bs p) 0 && isZero (yAt bs p)) (rw (h .kind-is, h .aux-is, h .y-is) (eqZ-refl (pos 0))))
         (neither (unless-none 4 (names (nodeCount bs) x) (fits .1))
         (neither (unless-none 5 (sameSort (nodeSort bs x) boolean) (fits .2))
-        (unless-none 6 (closedIn bs (natAbs x) (slotCount bs)) (free→closedIn (natAbs x) (slotCount bs) (h .closed)))))
+        (unless-none 6 (noFreeSlot bs (natAbs x) (slotCount bs)) (free→noFreeSlot (natAbs x) (slotCount bs) (h .closed)))))

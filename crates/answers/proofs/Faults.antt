@@ -36,6 +36,12 @@ module _ {A : Type 0} where
   none-orElse none b h = (refl, h)
   none-orElse (some x) b h = absurd (Option·some-ne-none x h)
 
+  -- A fault with none behind it.
+  pub orElse-none-right : (a : Option A) → orElse a none ≡ a
+  unfolding orElse
+  orElse-none-right none = refl
+  orElse-none-right (some x) = refl
+
 -- What has nothing to be placed has no fault.
 pub unmapped : {A B : Type 0} (f : A → B) (o : Option A) → Option·map f o ≡ none → o ≡ none
 unmapped f none e = refl

@@ -7,7 +7,7 @@ use mathlib.Core.Option.{Option, none, some}
 use Prim.Native.Nat.{ℕ, _<_}
 use lib.Dec.{eqb}
 use lib.IntN.{ℤ, natAbs}
-use Rattle.language.specs.Syntax.{Sort, boolean, integer, Arithmetic, plus, minus, times, least, most, Division, quot, rem, Connective, conj, disj, implies, iff, Comparison, equal, unequal, atMost, below, Quantifier, exists, forall}
+use Rattle.language.specs.Syntax.{Sort, boolean, integer, Arithmetic, plus, minus, times, minimum, maximum, Division, quot, rem, Connective, conj, disj, implies, iff, Comparison, equal, unequal, atMost, below, Quantifier, exists, forall}
 use Rattle.language.specs.Meaning.{isOne}
 use Rattle.language.specs.Tables.{constantRow, variableRow, slotRow, arithRow, divideRow, negateRow, boolToIntRow, lookupRow, sumRow, truthRow, variableBRow, lookupBRow, connectRow, negationRow, compareRow, quantifyRow, Tree, whole, bool, treeI, treeB, fill, freeI, freeB, freeIn}
 use Rattle.language.proofs.Trees.{NamesBelow}
@@ -171,8 +171,8 @@ every-kind =
     ⸴ divide-kind quot  -- 9
     ⸴ divide-kind rem  -- 10
     ⸴ negate-kind  -- 11
-    ⸴ arith-kind least  -- 12
-    ⸴ arith-kind most  -- 13
+    ⸴ arith-kind minimum  -- 12
+    ⸴ arith-kind maximum  -- 13
     ⸴ boolToInt-kind  -- 14
     ⸴ lookup-kind  -- 15
     ⸴ lookupB-kind  -- 16

@@ -3,7 +3,6 @@ pub mod ArraysFit
 pub mod Computed
 pub mod ConstraintsFit
 pub mod Declared
-pub mod Demand
 pub mod Elements
 pub mod Faults
 pub mod Fields
@@ -21,6 +20,7 @@ pub mod NoFaults
 pub mod NodeTrees
 pub mod NodesFit
 pub mod Numbers
+pub mod Orders
 pub mod Passed
 pub mod Refusals
 pub mod RowRecords
@@ -30,5 +30,6 @@ pub mod Runs
 pub mod SameFaults
 pub mod SignedWords
 pub mod SoundSections
+pub mod TotalBytes
 pub mod Translatable
 pub mod Trials

@@ -8,7 +8,7 @@ use lib.ListN.{length, getD}
 use Rattle.language.specs.Syntax.{boolean, Declarations}
 use Rattle.language.specs.Readings.{Reading}
 use Rattle.language.specs.Tables.{freeIn, freeB, treeB, trees}
-use Rattle.rules.specs.Demand.{firstOf, newRows}
+use Rattle.rules.specs.TotalRows.{firstOf, newRows}
 use Rattle.rules.specs.Soundness.{IsNode}
 use Rattle.rules.proofs.FreeCompanions.{companions-without-B}
 use Rattle.rules.proofs.Nodes.{IsNode→HasTree-bool}

@@ -15,7 +15,7 @@ use Rattle.numbers.proofs.Tests.{&&-intro}
 use Rattle.numbers.proofs.Division.{eqZ-refl}
 use Rattle.language.specs.Readings.{Reading}
 use Rattle.language.specs.Tables.{Row, truthRow, freeIn}
-use Rattle.rules.specs.Demand.{firstOf}
+use Rattle.rules.specs.TotalRows.{firstOf}
 use Rattle.rules.specs.Soundness.{RowFits}
 use Rattle.rules.proofs.Nodes.{IsNode→HasTree-bool, RowsFit-at}
 use Rattle.rules.proofs.Translation.{WellFormed-newRows}

@@ -15,12 +15,12 @@ use Rattle.language.specs.Syntax.{constant, Declarations}
 use Rattle.language.specs.Readings.{Reading}
 use Rattle.language.specs.Tables.{Row, Tree, whole, treeAt, fill, trees}
 use Rattle.language.specs.Meaning.{valueI}
-use Rattle.rules.specs.Demand.{HasValue, firstOf, newRows}
+use Rattle.rules.specs.TotalRows.{HasValue, firstOf, newRows}
 use Rattle.rules.specs.Soundness.{WellFormed}
 use Rattle.rules.proofs.Every.{All-getD}
 use Rattle.rules.proofs.Nodes.{WellFormed→tree-at, RowsFit-at}
 use Rattle.rules.proofs.Translation.{WellFormed-newRows}
-use Rattle.rules.proofs.Demand.{translation-meets-demand}
+use Rattle.rules.proofs.TotalRows.{rows-total}
 use Rattle.rules.proofs.LowEnds.{lowSetting, lowAssignment, lowEnds-fit}
 use Rattle.table.specs.Records.{HD, ND, CN}
 use Rattle.table.proofs.Words.{InWord}
@@ -68,7 +68,7 @@ module _ (bs : List ℕ) (ρ : Reading) where
     constants-in-word : (i : ℕ) (d : Row) → i < length newTable → ConstantInWord (getD newTable i d)
     unfolding treeAt valueI withinLimit nodeTrees
     constants-in-word i d l =
-        let met = translation-meets-demand ρ Γ (rows bs) (h .passed .well-formed) (h .bounded) (lowAssignment Γ) (lowSetting Γ) (lowEnds-fit Γ (Passed→domains bs (h .passed))) ρ in
+        let met = rows-total ρ Γ (rows bs) (h .passed .well-formed) (h .bounded) (lowAssignment Γ) (lowSetting Γ) (lowEnds-fit Γ (Passed→domains bs (h .passed))) ρ in
         let value : HasValue ρ Γ (lowAssignment Γ) (lowSetting Γ) (treeAt (trees newTable) i) =
         All-getD (HasValue ρ Γ (lowAssignment Γ) (lowSetting Γ)) (trees newTable) _ (met .values) (pos 0, refl, tt) i in
         HasValue→InWord (trees newTable) (getD newTable i d) (rw (WellFormed→tree-at wf i d l) at value)

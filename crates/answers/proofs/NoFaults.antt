@@ -1,6 +1,6 @@
 -- The check, part by part: it finds no fault exactly where none of its parts does.
 -- Assumes nothing.
-use mathlib.Core.Path.{_≡_}
+use mathlib.Core.Path.{_≡_, refl}
 use Prim.Native.Nat.{ℕ, _+_, _%_, _≤_, _<_}
 use native.Mathlib.Omega.{arith}
 use mathlib.Core.Bool.{Bool, _&&_}
@@ -13,7 +13,7 @@ use Rattle.numbers.specs.Limits.{mostBytes}
 use Rattle.numbers.proofs.Tests.{&&-intro, &&-fst, &&-snd, T→≡true, Tnot→≡false}
 use Rattle.table.specs.Records.{recordSize, recordCount}
 use Rattle.answers.specs.Sections.{variablesAt, slotsAt, arraysAt, nodesAt, constraintsAt, restAt, variableCount, slotCount, nodeCount, constraintCount}
-use Rattle.answers.specs.Check.{headerFault, variableFault, slotFault, arraysFault, nodeFault, constraintFault, restFault, lengthAllowed, lengthFault, checkFault}
+use Rattle.answers.specs.Check.{headerFault, variableFault, slotFault, arraysFault, nodeFault, constraintFault, restFault, lengthAllowed, lengthFault, first, checkOrder, checkFault}
 use Rattle.answers.proofs.Faults.{neither, none-orElse, none-cond, none-cond-not, firstFault-none, none-firstFault}
 
 -- a length that is allowed: neither too short nor too long, in whole records
@@ -57,7 +57,7 @@ module _ (bs : List ℕ) where
 
   -- No fault at all is no fault in each part,
   pub checkFault→NoFaults : checkFault bs ≡ none → NoFaults bs
-  unfolding checkFault restFault
+  unfolding checkFault checkOrder first restFault
   checkFault→NoFaults h =
       let a = none-orElse _ _ h in
       let b = none-orElse _ _ (a .1) in
@@ -74,12 +74,12 @@ module _ (bs : List ℕ) where
         arrays-none = e .0;
         nodes-none = none-firstFault _ (nodesAt bs) (nodeCount bs) (f .0);
         constraints-none = none-firstFault _ (constraintsAt bs) (constraintCount bs) (g .0);
-        no-rest = nltb→le (restAt bs) (recordCount bs) (none-cond-not (ltb (restAt bs) (recordCount bs)) _ (g .1));
+        no-rest = nltb→le (restAt bs) (recordCount bs) (none-cond-not (ltb (restAt bs) (recordCount bs)) _ (none-orElse _ _ (g .1) .0));
       }
 
   -- and no fault in each part is none at all.
   pub NoFaults→checkFault : NoFaults bs → checkFault bs ≡ none
-  unfolding checkFault restFault
+  unfolding checkFault checkOrder first restFault
   NoFaults→checkFault h =
       neither (LengthAllowed→lengthFault (h .length-allowed))
       (neither (firstFault-none (λ i. headerFault bs 0) 0 1 (λ i l. h .header-none))
@@ -88,4 +88,4 @@ module _ (bs : List ℕ) where
       (neither (h .arrays-none)
       (neither (firstFault-none _ (nodesAt bs) (nodeCount bs) (h .nodes-none))
       (neither (firstFault-none _ (constraintsAt bs) (constraintCount bs) (h .constraints-none))
-      (rw (Tnot→≡false (ltb (restAt bs) (recordCount bs)) (le→nltb (restAt bs) (recordCount bs) (h .no-rest))))))))))
+      (neither (rw (Tnot→≡false (ltb (restAt bs) (recordCount bs)) (le→nltb (restAt bs) (recordCount bs) (h .no-rest)))) refl)))))))

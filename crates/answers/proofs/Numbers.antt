@@ -15,8 +15,8 @@ use Rattle.language.specs.Meaning.{Assignment}
 use Rattle.table.specs.Records.{AR, recordSize, recordCount, marked, kindAt, yAt}
 use Rattle.table.specs.Kinds.{Kind, kindOf}
 use Rattle.answers.specs.Sections.{sortOfKind, behindArray, restAt, declarations}
-use Rattle.answers.specs.Check.{Refusal, refuse, unless, firstFault, headerFault, variableFault, slotFault, arrayFault, elementFault, kindFault, nodeFault, constraintFault, arraysFault, restFault, lengthAllowed, lengthFault, checkFault}
-use Rattle.answers.specs.Answers.{assignmentFault, boundsFault, newCount, roomFault}
+use Rattle.answers.specs.Check.{Refusal, refuse, unless, firstFault, headerFault, variableFault, slotFault, arrayFault, elementFault, kindFault, nodeFault, constraintFault, arraysFault, restFault, lengthAllowed, lengthFault, first, checkOrder, checkFault}
+use Rattle.answers.specs.Answers.{readingChosen, refuseUnless, assignmentFault, boundsFault, newCount, roomFault, evaluateOrder, translateOrder}
 
 -- a number from 1 to `most`
 abbrev pub upTo : ℕ → ℕ → Bool
@@ -79,7 +79,7 @@ module _ (ok : ℕ → Bool) where
 
   -- 9,
   pub Numbered-room : (table : List ℕ) (ρ : Reading) (room : ℕ) → T (ok 9) → Numbered ok (roomFault table ρ room)
-  unfolding roomFault
+  unfolding roomFault refuseUnless
   Numbered-room table ρ room h = Numbered-unless 9 (leb (recordSize * newCount table ρ) room && leb (recordSize * newCount table ρ) mostBytes) h
 
   -- and 10.
@@ -154,7 +154,7 @@ module _ (ok : ℕ → Bool) where
         go false = tt
 
     pub Numbered-check : Numbered ok (checkFault table)
-    unfolding checkFault lengthFault
+    unfolding checkFault checkOrder first lengthFault
     Numbered-check =
         Numbered-orElse _ _ (Numbered-unless 1 (lengthAllowed table) ok1)
         (Numbered-orElse _ _ (Numbered-firstFault _ _ _ (λ i. Own-header 0))
@@ -162,4 +162,28 @@ module _ (ok : ℕ → Bool) where
         (Numbered-orElse _ _ (Numbered-firstFault _ _ _ (λ i. Own-slot i _))
         (Numbered-orElse _ _ (Numbered-arrays _ _ _)
         (Numbered-orElse _ _ (Numbered-firstFault _ _ _ (λ n. Own-node n _))
-        (Numbered-orElse _ _ (Numbered-firstFault _ _ _ (λ i. Own-constraint _)) Numbered-rest))))))
+        (Numbered-orElse _ _ (Numbered-firstFault _ _ _ (λ i. Own-constraint _)) (Numbered-orElse _ _ Numbered-rest tt)))))))
+
+-- ---- the orders
+
+Numbered-refuseUnless : (ok : ℕ → Bool) (n : ℕ) (b : Bool) → T (ok n) → Numbered ok (refuseUnless n b)
+unfolding refuseUnless
+Numbered-refuseUnless ok n b h = Numbered-unless ok n b h
+
+-- Each order has the numbers of its call.
+pub evaluateOrder-numbered : (choice : ℕ) (table : List ℕ) (α : Assignment) (budget room : ℕ)
+    → Numbered (upTo 11) (first (evaluateOrder choice table α budget room))
+unfolding first evaluateOrder
+evaluateOrder-numbered choice table α budget room =
+    Numbered-orElse (upTo 11) _ _ (Numbered-refuseUnless (upTo 11) 7 _ tt)
+    (Numbered-orElse (upTo 11) _ _ (Numbered-check (upTo 11) tt tt tt tt tt tt table)
+    (Numbered-orElse (upTo 11) _ _ (Numbered-assignment (upTo 11) table α tt)
+    (Numbered-orElse (upTo 11) _ _ (Numbered-refuseUnless (upTo 11) 9 _ tt)
+    (Numbered-orElse (upTo 11) _ _ (Numbered-refuseUnless (upTo 11) 11 _ tt) (Numbered-orElse (upTo 11) _ _ (Numbered-refuseUnless (upTo 11) 8 _ tt) tt)))))
+
+pub translateOrder-numbered : (choice : ℕ) (table : List ℕ) (room : ℕ) → Numbered (upTo 9) (first (translateOrder choice table room))
+unfolding first translateOrder
+translateOrder-numbered choice table room =
+    Numbered-orElse (upTo 9) _ _ (Numbered-refuseUnless (upTo 9) 7 _ tt)
+    (Numbered-orElse (upTo 9) _ _ (Numbered-check (upTo 9) tt tt tt tt tt tt table)
+    (Numbered-orElse (upTo 9) _ _ (Numbered-bounds (upTo 9) table tt) (Numbered-orElse (upTo 9) _ _ (Numbered-room (upTo 9) table (readingChosen choice) room tt) tt)))

@@ -7,7 +7,7 @@ use mathlib.Core.List.{List}
 use mathlib.Core.Option.{some}
 use lib.IntN.{ℤ, pos, natAbs}
 use Rattle.numbers.specs.Whole.{eqZ}
-use Rattle.language.specs.Syntax.{boolean, integer, Arithmetic, plus, minus, times, least, most, Division, quot, rem, Connective, conj, disj, implies, iff, Comparison, equal, unequal, atMost, below, Quantifier, exists, forall, Declarations}
+use Rattle.language.specs.Syntax.{boolean, integer, Arithmetic, plus, minus, times, minimum, maximum, Division, quot, rem, Connective, conj, disj, implies, iff, Comparison, equal, unequal, atMost, below, Quantifier, exists, forall, Declarations}
 use Rattle.language.specs.Tables.{Row, constantRow, variableRow, slotRow, arithRow, divideRow, negateRow, boolToIntRow, lookupRow, sumRow, truthRow, variableBRow, lookupBRow, connectRow, negationRow, compareRow, quantifyRow}
 use Rattle.language.specs.Meaning.{isOne, number}
 use Rattle.rules.specs.Soundness.{RowFits}
@@ -105,8 +105,8 @@ unfolding kindOf kinds arithmeticKind
 kindOf-arithmetic plus = refl
 kindOf-arithmetic minus = refl
 kindOf-arithmetic times = refl
-kindOf-arithmetic least = refl
-kindOf-arithmetic most = refl
+kindOf-arithmetic minimum = refl
+kindOf-arithmetic maximum = refl
 
 -- div and mod,
 kindOf-division : (op : Division) → kindOf (divisionKind op) ≡ two integer integer (divideRow op)

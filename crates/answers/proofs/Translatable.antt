@@ -21,7 +21,7 @@ use Rattle.rules.specs.Soundness.{Bounded}
 use Rattle.table.specs.Records.{recordSize, kindAt, xAt, yAt}
 use Rattle.answers.specs.Sections.{variablesAt, nodesAt, variableCount, declarations, rows, variableOf, nodeTrees}
 use Rattle.answers.specs.Check.{isZero, domainAllowed, variableFault, checkFault}
-use Rattle.answers.specs.Answers.{boundsFault, newCount, roomFault}
+use Rattle.answers.specs.Answers.{refuseUnless, boundsFault, newCount, roomFault}
 use Rattle.answers.proofs.Faults.{none-unless, none-cond, none-firstFault}
 use Rattle.answers.proofs.Listed.{All-at}
 use Rattle.answers.proofs.Declared.{length-variables, variableAt-declarations}
@@ -45,7 +45,7 @@ module _ (bs : List ℕ) where
   module _ (ρ : Reading) where
     -- The translation that is not refused is not too long.
     roomFault→few : (room : ℕ) → roomFault bs ρ room ≡ none → recordSize * newCount bs ρ ≤ mostBytes
-    unfolding roomFault
+    unfolding roomFault refuseUnless
     roomFault→few room h =
         let passed = none-cond (leb (recordSize * newCount bs ρ) room && leb (recordSize * newCount bs ρ) mostBytes) _ h in
         leb→le (recordSize * newCount bs ρ) mostBytes (search &&-snd)

@@ -3,7 +3,7 @@
 use Prim.Native.Nat.{ℕ, _+_, _-_, _*_}
 use mathlib.Core.Bool.{Bool, true, false, cond, _&&_}
 use mathlib.Core.List.{List, [], _∷_, _++_, map}
-use mathlib.Core.Option.{Option, none, some, orElse}
+use mathlib.Core.Option.{Option, none, some}
 use lib.Dec.{eqb, leb}
 use lib.IntN.{pos}
 use lib.ListN.{length, getD, take, drop}
@@ -11,14 +11,14 @@ use Rattle.numbers.specs.Limits.{mostBytes}
 use Rattle.numbers.specs.Whole.{between}
 use Rattle.language.specs.Tables.{Row, treeAt, treeB}
 use Rattle.language.specs.Readings.{Reading, strict, kleene, relational}
-use Rattle.language.specs.Meaning.{Assignment, Setting, valueOf, valueB, calmB}
+use Rattle.language.specs.Meaning.{Assignment, Setting, valueOf, valueB, metWithinB}
 use Rattle.language.specs.Steps.{costB}
 use Rattle.rules.specs.Bounds.{variableAt, withinBounds}
 use Rattle.rules.specs.Writing.{Translated, translateRows}
 use Rattle.table.specs.Records.{HD, CN, recordSize, recordBytes}
 use Rattle.table.specs.Kinds.{nodeBytes}
 use Rattle.answers.specs.Sections.{variablesAt, nodesAt, declarations, rows, nodeTrees, constraints}
-use Rattle.answers.specs.Check.{Refusal, refuse, unless, firstFault, checkFault}
+use Rattle.answers.specs.Check.{Refusal, refuse, unless, firstFault, first, checkFault}
 
 -- a call's result
 pub record Answer : Type 0 where
@@ -49,6 +49,17 @@ outcome none answer new lent = record { answer = answer; lent = new ++ drop (len
 -- "Choice 1 strict, 2 Kleene, 3 relational."; "7: choice not 1 to 3"
 unfoldable pub readingOf : ℕ → Option Reading
 readingOf c = cond (eqb c 1) (some strict) (cond (eqb c 2) (some kleene) (cond (eqb c 3) (some relational) none))
+
+unfoldable pub isReading : ℕ → Bool
+isReading c = elim (readingOf c) [ none ↦ false | some ρ ↦ true ]
+
+-- the reading chosen; every call with another choice is refused, whatever stands here
+unfoldable pub readingChosen : ℕ → Reading
+readingChosen c = elim (readingOf c) [ none ↦ strict | some ρ ↦ ρ ]
+
+-- number n, about no record, where the test fails
+unfoldable pub refuseUnless : ℕ → Bool → Option Refusal
+refuseUnless n test = cond test none (refuse n 0)
 
 -- ---- check
 
@@ -94,30 +105,32 @@ module _ (table : List ℕ) where
     unfoldable pub valueOfConstraint : ℕ → Option Bool
     valueOfConstraint k = valueB ρ (declarations table) α (treeB (nodeTrees table) k) unset
 
-    unfoldable pub allCalm : List ℕ → Bool
-    allCalm [] = true
-    allCalm (k ∷ ks) = calmB ρ (declarations table) α (treeB (nodeTrees table) k) unset && allCalm ks
+    unfoldable pub allMetWithin : List ℕ → Bool
+    allMetWithin [] = true
+    allMetWithin (k ∷ ks) = metWithinB ρ (declarations table) α (treeB (nodeTrees table) k) unset && allMetWithin ks
 
     unfoldable pub verdicts : List ℕ
     verdicts = map (λ k. verdict (valueOfConstraint k)) (constraints table)
 
-    -- "Evaluate: then 10, 9, 11, 8."
-    unfoldable pub evaluationFault : ℕ → ℕ → Option Refusal
-    evaluationFault budget room =
-        orElse (checkFault table)
-        (orElse (assignmentFault α)
-        (orElse (cond (leb (length (constraints table)) room) none (refuse 9 0))
-        (orElse (cond (leb totalCost budget) none (refuse 11 0)) (cond (allCalm (constraints table)) none (refuse 8 0)))))
+-- "Order: 7, 1, then the first faulty record and in it 2 to 6 upward. .. Evaluate: then 10, 9, 11, 8."
+unfoldable pub evaluateOrder : ℕ → List ℕ → Assignment → ℕ → ℕ → List (Option Refusal)
+evaluateOrder choice table α budget room =
+    refuseUnless 7 (isReading choice)
+    ∷ checkFault table
+    ∷ assignmentFault table α
+    ∷ refuseUnless 9 (leb (length (constraints table)) room)
+    ∷ refuseUnless 11 (leb (totalCost table) budget)
+    ∷ refuseUnless 8 (allMetWithin table (readingChosen choice) α (constraints table))
+    ∷ []
 
-    unfoldable pub evaluateUnder : ℕ → List ℕ → Outcome
-    evaluateUnder budget lent = outcome (evaluationFault budget (length lent)) (done totalCost (length verdicts) (allOne verdicts)) verdicts lent
-
--- "Order: 7, 1, ..": a choice that is none comes first
-unfoldable pub underChoice : ℕ → List ℕ → (Reading → Outcome) → Outcome
-underChoice choice lent go = elim (readingOf choice) [ none ↦ outcome (refuse 7 0) (done 0 0 false) [] lent | some ρ ↦ go ρ ]
+-- what an evaluation under ρ answers where it is not refused
+unfoldable pub evaluationDone : List ℕ → Reading → Assignment → Answer
+evaluationDone table ρ α = done (totalCost table) (length (verdicts table ρ α)) (allOne (verdicts table ρ α))
 
 unfoldable pub evaluate : ℕ → List ℕ → Assignment → ℕ → List ℕ → Outcome
-evaluate choice table α budget lent = underChoice choice lent (λ ρ. evaluateUnder table ρ α budget lent)
+evaluate choice table α budget lent =
+    outcome (first (evaluateOrder choice table α budget (length lent)))
+    (evaluationDone table (readingChosen choice) α) (verdicts table (readingChosen choice) α) lent
 
 -- ---- translate
 
@@ -152,14 +165,18 @@ module _ (table : List ℕ) where
 
     -- "9: output longer than the buffer, or a translation beyond 60,000 bytes"
     unfoldable pub roomFault : ℕ → Option Refusal
-    roomFault room = cond (leb (recordSize * newCount) room && leb (recordSize * newCount) mostBytes) none (refuse 9 0)
+    roomFault room = refuseUnless 9 (leb (recordSize * newCount) room && leb (recordSize * newCount) mostBytes)
 
-    -- "Translate: then 8, 9."
-    unfoldable pub translationFault : ℕ → Option Refusal
-    translationFault room = orElse (checkFault table) (orElse boundsFault (roomFault room))
+-- "Order: 7, 1, then the first faulty record and in it 2 to 6 upward. Translate: then 8, 9."
+unfoldable pub translateOrder : ℕ → List ℕ → ℕ → List (Option Refusal)
+translateOrder choice table room =
+    refuseUnless 7 (isReading choice) ∷ checkFault table ∷ boundsFault table ∷ roomFault table (readingChosen choice) room ∷ []
 
-    unfoldable pub translateUnder : List ℕ → Outcome
-    translateUnder lent = outcome (translationFault (length lent)) (done 0 (length translation) false) translation lent
+-- what a translation under ρ answers where it is not refused
+unfoldable pub translationDone : List ℕ → Reading → Answer
+translationDone table ρ = done 0 (length (translation table ρ)) false
 
 unfoldable pub translate : ℕ → List ℕ → List ℕ → Outcome
-translate choice table lent = underChoice choice lent (λ ρ. translateUnder table ρ lent)
+translate choice table lent =
+    outcome (first (translateOrder choice table (length lent)))
+    (translationDone table (readingChosen choice)) (translation table (readingChosen choice)) lent

@@ -1,9 +1,8 @@
 -- The check: for every byte string the number and the record of its refusal, or none.
--- "Order: 7, 1, then the first faulty record and in it 2 to 6 upward."
 -- Assumes nothing.
 use Prim.Native.Nat.{ℕ, zero, suc, _+_, _%_}
 use mathlib.Core.Bool.{Bool, true, false, cond, not, _&&_, _||_}
-use mathlib.Core.List.{List}
+use mathlib.Core.List.{List, [], _∷_}
 use mathlib.Core.Option.{Option, none, some, Option·map, orElse}
 use lib.Dec.{eqb, leb, ltb}
 use lib.IntN.{ℤ, pos, natAbs}
@@ -35,6 +34,11 @@ unless n false = some n
 unfoldable pub firstFault : (ℕ → Option ℕ) → ℕ → ℕ → Option Refusal
 firstFault own p zero = none
 firstFault own p (suc k) = orElse (firstFault own p k) (Option·map (λ n. record { number = n; at = p + k }) (own k))
+
+-- the first refusal in an order
+unfoldable pub first : List (Option Refusal) → Option Refusal
+first [] = none
+first (f ∷ fs) = orElse f (first fs)
 
 -- ---- small tests
 
@@ -158,16 +162,16 @@ module _ (bs : List ℕ) where
   nodeFault n p = elim (kindOf (kindAt bs p)) [ none ↦ some 3 | some k ↦ kindFault n k p ]
 
   -- "a constraint has no free slot": none of the first n slots is free in node k
-  unfoldable pub closedIn : ℕ → ℕ → Bool
-  closedIn k zero = true
-  closedIn k (suc n) = closedIn k n && not (freeIn n (treeAt (nodeTrees bs) k))
+  unfoldable pub noFreeSlot : ℕ → ℕ → Bool
+  noFreeSlot k zero = true
+  noFreeSlot k (suc n) = noFreeSlot k n && not (freeIn n (treeAt (nodeTrees bs) k))
 
   unfoldable pub constraintFault : ℕ → Option ℕ
   constraintFault p =
       orElse (unless 3 (eqb (kindAt bs p) 0 && eqb (auxAt bs p) 0 && isZero (yAt bs p)))
       (orElse (unless 4 (names (nodeCount bs) (xAt bs p)))
       (orElse (unless 5 (sameSort (nodeSort (xAt bs p)) boolean))
-      (unless 6 (closedIn (natAbs (xAt bs p)) (slotCount bs)))))
+      (unless 6 (noFreeSlot (natAbs (xAt bs p)) (slotCount bs)))))
 
   -- ---- the sections
 
@@ -194,13 +198,18 @@ module _ (bs : List ℕ) where
   unfoldable pub lengthFault : Option Refusal
   lengthFault = cond lengthAllowed none (refuse 1 0)
 
+  -- "Order: 7, 1, then the first faulty record and in it 2 to 6 upward": the length, then section by section
+  unfoldable pub checkOrder : List (Option Refusal)
+  checkOrder =
+      lengthFault
+      ∷ firstFault (λ i. headerFault 0) 0 1
+      ∷ firstFault (λ i. variableFault i (variablesAt bs + i)) (variablesAt bs) (variableCount bs)
+      ∷ firstFault (λ i. slotFault i (slotsAt bs + i)) (slotsAt bs) (slotCount bs)
+      ∷ arraysFault (recordCount bs) 0 (arraysAt bs)
+      ∷ firstFault (λ n. nodeFault n (nodesAt bs + n)) (nodesAt bs) (nodeCount bs)
+      ∷ firstFault (λ i. constraintFault (constraintsAt bs + i)) (constraintsAt bs) (constraintCount bs)
+      ∷ restFault
+      ∷ []
+
   unfoldable pub checkFault : Option Refusal
-  checkFault =
-      orElse lengthFault
-      (orElse (firstFault (λ i. headerFault 0) 0 1)
-      (orElse (firstFault (λ i. variableFault i (variablesAt bs + i)) (variablesAt bs) (variableCount bs))
-      (orElse (firstFault (λ i. slotFault i (slotsAt bs + i)) (slotsAt bs) (slotCount bs))
-      (orElse (arraysFault (recordCount bs) 0 (arraysAt bs))
-      (orElse (firstFault (λ n. nodeFault n (nodesAt bs + n)) (nodesAt bs) (nodeCount bs))
-      (orElse (firstFault (λ i. constraintFault (constraintsAt bs + i)) (constraintsAt bs) (constraintCount bs))
-      restFault))))))
+  checkFault = first checkOrder

@@ -7,10 +7,9 @@ use mathlib.Core.Option.{none, some}
 use lib.Dec.{leb, ltb}
 use lib.IntN.{ℤ, pos, negsuc}
 use Rattle.numbers.specs.Limits.{mostBytes}
-use Rattle.language.specs.Readings.{Reading}
 use Rattle.table.specs.Records.{recordSize, byteAt, kindAt, auxAt, xAt, yAt}
-use Rattle.answers.specs.Check.{Refusal}
-use Rattle.answers.specs.Answers.{readingOf, translationFault, translation, newCount}
+use Rattle.answers.specs.Check.{Refusal, first}
+use Rattle.answers.specs.Answers.{readingChosen, translation, newCount, translateOrder}
 
 -- a number's decimal digits in ASCII, as many as there are but n at most
 unfoldable pub digits : ℕ → ℕ → List ℕ
@@ -51,12 +50,12 @@ unfoldable pub refusalLine : Refusal → List ℕ
 refusalLine r = (114 ∷ 101 ∷ 102 ∷ 117 ∷ 115 ∷ 101 ∷ 100 ∷ []) ++ (space ++ (decimal (r .number) ++ (space ++ (decimal (r .at) ++ newline))))
 
 -- the translation in a buffer that holds any
-unfoldable pub listingUnder : List ℕ → Reading → List ℕ
-listingUnder table ρ =
-    elim (translationFault table ρ mostBytes) [ none ↦ linesOf (translation table ρ) (newCount table ρ) | some r ↦ refusalLine r ]
-
 unfoldable pub listingOf : ℕ → List ℕ → List ℕ
-listingOf choice table = elim (readingOf choice) [ none ↦ refusalLine (record { number = 7; at = 0 }) | some ρ ↦ listingUnder table ρ ]
+listingOf choice table =
+    elim (first (translateOrder choice table mostBytes)) [
+      | none ↦ linesOf (translation table (readingChosen choice)) (newCount table (readingChosen choice))
+      | some r ↦ refusalLine r
+    ]
 
 -- "one digit of choice (any other byte, or none, counts as choice 0)"
 unfoldable pub choiceOf : ℕ → ℕ

@@ -14,7 +14,7 @@ use Rattle.numbers.specs.Whole.{withinLimit}
 use Rattle.numbers.proofs.Naturals.{lt-or-ge}
 use Rattle.numbers.proofs.Tests.{&&-fst, &&-snd}
 use Rattle.numbers.proofs.Splits.{split}
-use Rattle.language.specs.Syntax.{constant, plus, minus, times, least, most, quot, rem, Declarations}
+use Rattle.language.specs.Syntax.{constant, plus, minus, times, minimum, maximum, quot, rem, Declarations}
 use Rattle.language.specs.Tables.{truthRow, Tree, whole, bool, asI, treeAt, treeI, fill, trees}
 use Rattle.language.proofs.Trees.{length-trees, treeAt-take}
 use Rattle.language.specs.Meaning.{slotAt, arrayAt, count}
@@ -101,13 +101,13 @@ module _ (bs : List ℕ) (n : ℕ) {p : ℕ} (e : p ≡ nodesAt bs + n) where
   unfolding endsOf fill rowIn kindOf kinds asI interval
   negate-ends h = ends-at 11 h
 
-  pub least-ends : kindAt bs p ≡ 12 → arithInterval least (interval Γ (treeI ts x)) (interval Γ (treeI ts y)) ≡ nodeEnds bs n
+  pub minimum-ends : kindAt bs p ≡ 12 → arithInterval minimum (interval Γ (treeI ts x)) (interval Γ (treeI ts y)) ≡ nodeEnds bs n
   unfolding endsOf fill rowIn kindOf kinds asI interval
-  least-ends h = ends-at 12 h
+  minimum-ends h = ends-at 12 h
 
-  pub most-ends : kindAt bs p ≡ 13 → arithInterval most (interval Γ (treeI ts x)) (interval Γ (treeI ts y)) ≡ nodeEnds bs n
+  pub maximum-ends : kindAt bs p ≡ 13 → arithInterval maximum (interval Γ (treeI ts x)) (interval Γ (treeI ts y)) ≡ nodeEnds bs n
   unfolding endsOf fill rowIn kindOf kinds asI interval
-  most-ends h = ends-at 13 h
+  maximum-ends h = ends-at 13 h
 
   pub boolToInt-ends : kindAt bs p ≡ 14 → (pos 0 to pos 1) ≡ nodeEnds bs n
   unfolding endsOf fill rowIn kindOf kinds asI interval

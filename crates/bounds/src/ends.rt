@@ -87,7 +87,7 @@ pub fn times(i: Ends, j: Ends) -> Ends
 }
 
 pub fn lesser(i: Ends, j: Ends) -> Ends
-    ensures { λ r. ⌜ span r ≡ Bounds.arithInterval Syntax.least (span i) (span j) ⌝ }
+    ensures { λ r. ⌜ span r ≡ Bounds.arithInterval Syntax.minimum (span i) (span j) ⌝ }
 {
     Ends {
         low: least(i.low, j.low),
@@ -96,7 +96,7 @@ pub fn lesser(i: Ends, j: Ends) -> Ends
 }
 
 pub fn greater(i: Ends, j: Ends) -> Ends
-    ensures { λ r. ⌜ span r ≡ Bounds.arithInterval Syntax.most (span i) (span j) ⌝ }
+    ensures { λ r. ⌜ span r ≡ Bounds.arithInterval Syntax.maximum (span i) (span j) ⌝ }
 {
     Ends {
         low: greatest(i.low, j.low),

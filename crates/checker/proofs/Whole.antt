@@ -13,9 +13,9 @@ use Rattle.numbers.specs.Limits.{mostBytes}
 use Rattle.numbers.proofs.Tests.{and-left, and-right}
 use Rattle.table.specs.Records.{recordSize, recordCount}
 use Rattle.answers.specs.Sections.{restAt}
-use Rattle.answers.specs.Check.{Refusal, refuse, lengthAllowed, lengthFault, restFault, checkFault}
+use Rattle.answers.specs.Check.{Refusal, refuse, lengthAllowed, lengthFault, restFault, first, checkOrder, checkFault}
 use Rattle.answers.specs.Answers as Answers
-use Rattle.answers.proofs.Faults.{orElse-none, orElse-some}
+use Rattle.answers.proofs.Faults.{orElse-none, orElse-some, orElse-none-right}
 use Rattle.nodes.specs.Known.{bodyFault}
 use Rattle.verdict.specs.declared.Check.{Check}
 use Rattle.verdict.specs.Results.{refusalOf, answerOf}
@@ -73,9 +73,9 @@ unfolding answerOf Answers.check
 answered bs c e = rw (e, answerOf, Answers.check)
 
 pub sound-length : (bs : List ℕ) (c : Check) → lengthAllowed bs ≡ true → refusalOf c ≡ recordsFault bs → answerOf c ≡ Answers.check bs
-unfolding checkFault lengthFault recordsFault bodyFault
-sound-length bs c l e = answered bs c (after (ap (λ (b : Bool). cond b none (refuse 1 0)) l) (rw orElse-assoc at e))
+unfolding checkFault checkOrder first lengthFault recordsFault bodyFault
+sound-length bs c l e = answered bs c (after (ap (λ (b : Bool). cond b none (refuse 1 0)) l) (rw (orElse-none-right (restFault bs)) (rw orElse-assoc at e)))
 
 pub bad-length : (bs : List ℕ) (c : Check) → lengthAllowed bs ≡ false → refusalOf c ≡ refuse 1 0 → answerOf c ≡ Answers.check bs
-unfolding checkFault lengthFault
+unfolding checkFault checkOrder first lengthFault
 bad-length bs c l e = answered bs c (e ∙ sym (orElse-some _ (ap (λ (b : Bool). cond b none (refuse 1 0)) l)))

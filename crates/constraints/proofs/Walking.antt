@@ -15,17 +15,17 @@ use lib.Seq.{take-suc-set, drop-set-lt, drop-drop}
 use Rattle.numbers.proofs.Naturals.{lt-or-ge}
 use Rattle.language.specs.Readings.{Reading}
 use Rattle.language.specs.Tables.{treeB}
-use Rattle.language.specs.Meaning.{Assignment, calmB}
+use Rattle.language.specs.Meaning.{Assignment, metWithinB}
 use Rattle.table.specs.Records.{recordCount, xAt}
 use Rattle.answers.specs.Sections.{listed, constraintsAt, nodeCount, constraintCount, declarations, nodeTrees, constraints}
 use Rattle.answers.specs.Check.{checkFault}
-use Rattle.answers.specs.Answers.{unset, valueOfConstraint, allCalm, verdict, verdicts, allOne}
+use Rattle.answers.specs.Answers.{unset, valueOfConstraint, allMetWithin, verdict, verdicts, allOne}
 use Rattle.answers.proofs.Listed.{length-listed}
 use Rattle.answers.proofs.Declared.{length-rows}
 use Rattle.answers.proofs.ConstraintsFit.{ConstraintPassed, none→ConstraintPassed}
 use Rattle.answers.proofs.Passed.{Passed, checkFault≡none→Passed, Passed→SectionsOrdered, few-records}
 use Rattle.operations.specs.declared.values.Walked.{Walked}
-use Rattle.operations.specs.Values.{ofCalm, ofTruth, truthOf}
+use Rattle.operations.specs.Values.{ofWalk, ofTruth, truthOf}
 use Rattle.evaluator.specs.Walks.{Laid, truthWalked, truthAt}
 use Rattle.preparation.specs.Prepared.{Prepared}
 use Rattle.preparation.proofs.Laid.{prepared-laid, truthAt-prepared}
@@ -82,12 +82,12 @@ module _ {table bytes places : List ℕ} (ready : Prepared table bytes places) w
 -- ---- all constraints
 
 module _ (table : List ℕ) (ρ : Reading) (α : Assignment) where
-  -- the node of constraint i, whether its walk is calm, and its byte
+  -- the node of constraint i, whether its walk stays within the limit, and its byte
   abbrev pub nodeAt : ℕ → ℕ
   nodeAt i = natAbs (xAt table (constraintsAt table + i))
 
-  abbrev pub calmAt : ℕ → Bool
-  calmAt k = calmB ρ (declarations table) α (treeB (nodeTrees table) k) unset
+  abbrev pub withinAt : ℕ → Bool
+  withinAt k = metWithinB ρ (declarations table) α (treeB (nodeTrees table) k) unset
 
   abbrev pub byteAt : ℕ → ℕ
   byteAt k = verdict (valueOfConstraint table ρ α k)
@@ -95,17 +95,17 @@ module _ (table : List ℕ) (ρ : Reading) (α : Assignment) where
   -- what holds when i constraints have been walked
   pub record Walked-so-far (bytes : List ℕ) (all : Bool) (i : ℕ) : Type 0 where
     pub sized : length bytes ≡ 5000
-    pub calm : allCalm table ρ α (listed i nodeAt) ≡ true
+    pub within : allMetWithin table ρ α (listed i nodeAt) ≡ true
     pub written : take i bytes ≡ map byteAt (listed i nodeAt)
     pub zeros : drop i bytes ≡ replicate (5000 - i) 0
     pub all-one : all ≡ allOne (map byteAt (listed i nodeAt))
 
   -- ---- one more
 
-  allCalm-snoc : (ks : List ℕ) (k : ℕ) → allCalm table ρ α (ks ++ (k ∷ [])) ≡ (allCalm table ρ α ks && calmAt k)
-  unfolding allCalm
-  allCalm-snoc [] k = &&-true (calmAt k)
-  allCalm-snoc (j ∷ ks) k = ap (λ (b : Bool). calmAt j && b) (allCalm-snoc ks k) ∙ &&-assoc (calmAt j) (allCalm table ρ α ks) (calmAt k)
+  allMetWithin-snoc : (ks : List ℕ) (k : ℕ) → allMetWithin table ρ α (ks ++ (k ∷ [])) ≡ (allMetWithin table ρ α ks && withinAt k)
+  unfolding allMetWithin
+  allMetWithin-snoc [] k = &&-true (withinAt k)
+  allMetWithin-snoc (j ∷ ks) k = ap (λ (b : Bool). withinAt j && b) (allMetWithin-snoc ks k) ∙ &&-assoc (withinAt j) (allMetWithin table ρ α ks) (withinAt k)
 
   allOne-snoc : (vs : List ℕ) (v : ℕ) → allOne (vs ++ (v ∷ [])) ≡ (allOne vs && eqb v 1)
   unfolding allOne
@@ -113,33 +113,33 @@ module _ (table : List ℕ) (ρ : Reading) (α : Assignment) where
   allOne-snoc (w ∷ vs) v = ap (λ (b : Bool). eqb w 1 && b) (allOne-snoc vs v) ∙ &&-assoc (eqb w 1) (allOne vs) (eqb v 1)
 
   -- what a walk says of its constraint
-  walked-calm : (k : ℕ) {w : Walked} → w ≡ walkedAt table ρ α k → w .calm ≡ calmAt k
+  walked-within : (k : ℕ) {w : Walked} → w ≡ walkedAt table ρ α k → w .within ≡ withinAt k
   unfolding walkedAt truthWalked
-  walked-calm k e = ap (λ (w : Walked). w .calm) e ∙ by-calm (calmAt k) _
+  walked-within k e = ap (λ (w : Walked). w .within) e ∙ by-within (withinAt k) _
     where
-      by-calm : (b : Bool) (v : _) → ofCalm b v .calm ≡ b
-      by-calm true v = refl
-      by-calm false v = refl
+      by-within : (b : Bool) (v : _) → ofWalk b v .within ≡ b
+      by-within true v = refl
+      by-within false v = refl
 
-  walked-byte : (k : ℕ) {w : Walked} → w ≡ walkedAt table ρ α k → w .calm ≡ true → verdict (truthOf (w .value)) ≡ byteAt k
+  walked-byte : (k : ℕ) {w : Walked} → w ≡ walkedAt table ρ α k → w .within ≡ true → verdict (truthOf (w .value)) ≡ byteAt k
   unfolding walkedAt truthWalked valueOfConstraint
-  walked-byte k e c = ap (λ (w : Walked). verdict (truthOf (w .value))) e ∙ by-calm (calmAt k) (valueOfConstraint table ρ α k) (sym (walked-calm k e) ∙ c)
+  walked-byte k e c = ap (λ (w : Walked). verdict (truthOf (w .value))) e ∙ by-within (withinAt k) (valueOfConstraint table ρ α k) (sym (walked-within k e) ∙ c)
     where
-      by-calm : (b : Bool) (v : Option Bool) → b ≡ true → verdict (truthOf (ofCalm b (ofTruth v) .value)) ≡ verdict v
-      by-calm true none q = refl
-      by-calm true (some true) q = refl
-      by-calm true (some false) q = refl
-      by-calm false v q = let z : _≡_ {A = ℕ} 0 1 = cc in absurd (omega arith)
+      by-within : (b : Bool) (v : Option Bool) → b ≡ true → verdict (truthOf (ofWalk b (ofTruth v) .value)) ≡ verdict v
+      by-within true none q = refl
+      by-within true (some true) q = refl
+      by-within true (some false) q = refl
+      by-within false v q = let z : _≡_ {A = ℕ} 0 1 = cc in absurd (omega arith)
 
   pub walked-none : Walked-so-far (replicate 5000 0) true 0
-  unfolding listed allCalm allOne
-  walked-none = record { sized = length-replicate {A = ℕ} 5000 0; calm = refl; written = refl; zeros = refl; all-one = refl }
+  unfolding listed allMetWithin allOne
+  walked-none = record { sized = length-replicate {A = ℕ} 5000 0; within = refl; written = refl; zeros = refl; all-one = refl }
 
   one-less : (i : ℕ) → i < 5000 → 5000 - i ≡ suc (5000 - (i + 1))
   one-less i l = omega arith
 
   pub walked-more : {bytes : List ℕ} {all : Bool} {i p v : ℕ} {w : Walked} → Walked-so-far bytes all i → i < 5000 → p ≡ constraintsAt table + i
-      → w ≡ walkedAt table ρ α (natAbs (xAt table p)) → w .calm ≡ true → v ≡ verdict (truthOf (w .value))
+      → w ≡ walkedAt table ρ α (natAbs (xAt table p)) → w .within ≡ true → v ≡ verdict (truthOf (w .value))
       → Walked-so-far (set bytes i v) (all && eqb v 1) (i + 1)
   unfolding listed
   walked-more {bytes} {all} {i} {p} {v} s l q e c f =
@@ -147,7 +147,7 @@ module _ (table : List ℕ) (ρ : Reading) (α : Assignment) where
       let b : v ≡ byteAt (nodeAt i) = f ∙ walked-byte (nodeAt i) (e ∙ at) c in
       record {
         sized = length-set bytes i v ∙ s .sized;
-        calm = rw (add-one i, allCalm-snoc (listed i nodeAt) (nodeAt i), s .calm) (sym (walked-calm (nodeAt i) (e ∙ at)) ∙ c);
+        within = rw (add-one i, allMetWithin-snoc (listed i nodeAt) (nodeAt i), s .within) (sym (walked-within (nodeAt i) (e ∙ at)) ∙ c);
         written = rw (add-one i, take-suc-set bytes i v (omega (arith, s .sized)), s .written, b) (sym (map-append byteAt (listed i nodeAt) (nodeAt i ∷ [])));
         zeros = drop-set-lt (i + 1) bytes i v (omega arith) ∙ sym (drop-drop 1 i bytes) ∙ ap (drop 1) (s .zeros ∙ ap (λ n. replicate n 0) (one-less i l));
         all-one = rw (add-one i, map-append, allOne-snoc (map byteAt (listed i nodeAt)) (byteAt (nodeAt i)), s .all-one, b);
@@ -155,30 +155,30 @@ module _ (table : List ℕ) (ρ : Reading) (α : Assignment) where
 
   -- ---- the end
 
-  -- A constraint that is not calm leaves the table not calm,
-  calm-not : (n i : ℕ) → i < n → calmAt (nodeAt i) ≡ false → allCalm table ρ α (listed n nodeAt) ≡ false
+  -- A constraint that does not stay within the limit leaves the table so,
+  within-not : (n i : ℕ) → i < n → withinAt (nodeAt i) ≡ false → allMetWithin table ρ α (listed n nodeAt) ≡ false
   unfolding listed
-  calm-not zero i l e = absurd (omega arith)
-  calm-not (suc n) i l e = allCalm-snoc (listed n nodeAt) (nodeAt n) ∙ ⊎-elim (λ m. before (calm-not n i m e)) (λ m. last (omega arith)) (lt-or-ge i n)
+  within-not zero i l e = absurd (omega arith)
+  within-not (suc n) i l e = allMetWithin-snoc (listed n nodeAt) (nodeAt n) ∙ ⊎-elim (λ m. before (within-not n i m e)) (λ m. last (omega arith)) (lt-or-ge i n)
     where
-      before : allCalm table ρ α (listed n nodeAt) ≡ false → (allCalm table ρ α (listed n nodeAt) && calmAt (nodeAt n)) ≡ false
+      before : allMetWithin table ρ α (listed n nodeAt) ≡ false → (allMetWithin table ρ α (listed n nodeAt) && withinAt (nodeAt n)) ≡ false
       before q = rw q
 
-      last : i ≡ n → (allCalm table ρ α (listed n nodeAt) && calmAt (nodeAt n)) ≡ false
-      last q = rw (← q, e) (&&-false (allCalm table ρ α (listed i nodeAt)))
+      last : i ≡ n → (allMetWithin table ρ α (listed n nodeAt) && withinAt (nodeAt n)) ≡ false
+      last q = rw (← q, e) (&&-false (allMetWithin table ρ α (listed i nodeAt)))
 
   pub walked-beyond : {i p : ℕ} {w : Walked} → i < constraintCount table → p ≡ constraintsAt table + i
-      → w ≡ walkedAt table ρ α (natAbs (xAt table p)) → w .calm ≡ false
-      → record { bytes = replicate 5000 0; calm = false; all = false } ≡ verdictsOf table ρ α
+      → w ≡ walkedAt table ρ α (natAbs (xAt table p)) → w .within ≡ false
+      → record { bytes = replicate 5000 0; within = false; all = false } ≡ verdictsOf table ρ α
   unfolding constraints verdictsOf
-  walked-beyond {i} l q e c = rw (calm-not (constraintCount table) i l (ap (λ j. calmAt (natAbs (xAt table j))) (sym q) ∙ sym (walked-calm _ e) ∙ c))
+  walked-beyond {i} l q e c = rw (within-not (constraintCount table) i l (ap (λ j. withinAt (natAbs (xAt table j))) (sym q) ∙ sym (walked-within _ e) ∙ c))
 
   -- and where all are, they are the table's.
   pub walked-all : {bytes : List ℕ} {all : Bool} {i : ℕ} → Walked-so-far bytes all i → i ≡ constraintCount table
-      → record { bytes = bytes; calm = true; all = all } ≡ verdictsOf table ρ α
+      → record { bytes = bytes; within = true; all = all } ≡ verdictsOf table ρ α
   unfolding constraints verdicts verdictsOf
   walked-all {bytes} {all} {i} s q =
-      let calm : allCalm table ρ α (listed (constraintCount table) nodeAt) ≡ true = rw q at (s .calm) in
+      let within : allMetWithin table ρ α (listed (constraintCount table) nodeAt) ≡ true = rw q at (s .within) in
       let counted : length (map byteAt (listed i nodeAt)) ≡ i = length-map (listed i nodeAt) byteAt ∙ length-listed i nodeAt in
       let whole : bytes ≡ map byteAt (listed i nodeAt) ++ replicate (5000 - length (map byteAt (listed i nodeAt))) 0 = sym (take-append-drop i bytes) ∙ ap₂ _++_ (s .written) (s .zeros ∙ ap (λ n. replicate (5000 - n) 0) (sym counted)) in
-      rw (calm, ← q) (ap₂ (λ (b : List ℕ) (a : Bool). record { bytes = b; calm = true; all = a }) whole (s .all-one))
+      rw (within, ← q) (ap₂ (λ (b : List ℕ) (a : Bool). record { bytes = b; within = true; all = a }) whole (s .all-one))

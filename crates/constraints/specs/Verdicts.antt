@@ -8,7 +8,7 @@ use Rattle.language.specs.Readings.{Reading}
 use Rattle.language.specs.Tables.{treeB}
 use Rattle.language.specs.Meaning.{Assignment}
 use Rattle.answers.specs.Sections.{constraintsAt, restAt, declarations, nodeTrees, constraints}
-use Rattle.answers.specs.Answers.{unset, allCalm, verdicts, allOne}
+use Rattle.answers.specs.Answers.{unset, allMetWithin, verdicts, allOne}
 use Rattle.operations.specs.declared.values.Walked.{Walked}
 use Rattle.evaluator.specs.Walks.{truthWalked}
 use Rattle.constraints.specs.declared.Verdicts.{Verdicts}
@@ -25,6 +25,6 @@ pub record ConstraintAt (table : List ℕ) (p : ℕ) : Type 0 where
 -- the constraints' bytes and 0 behind them, and whether all are 1; beyond the limit only zeros, and a no
 unfoldable pub verdictsOf : List ℕ → Reading → Assignment → Verdicts
 verdictsOf table ρ α =
-    cond (allCalm table ρ α (constraints table))
-    (record { bytes = verdicts table ρ α ++ replicate (5000 - length (verdicts table ρ α)) 0; calm = true; all = allOne (verdicts table ρ α) })
-    (record { bytes = replicate 5000 0; calm = false; all = false })
+    cond (allMetWithin table ρ α (constraints table))
+    (record { bytes = verdicts table ρ α ++ replicate (5000 - length (verdicts table ρ α)) 0; within = true; all = allOne (verdicts table ρ α) })
+    (record { bytes = replicate 5000 0; within = false; all = false })

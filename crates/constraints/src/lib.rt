@@ -22,7 +22,7 @@ use table::NodeNumber;
 // Past the limit: zeros, and a no.
 pub struct Verdicts {
     pub bytes: [u8; MOST_RECORDS],
-    pub calm: bool,
+    pub within: bool,
     pub all: bool,
 }
 
@@ -74,11 +74,11 @@ pub fn constraint_values(
     let mut i = 0;
     while i < count {
         let walked = constraint_value(s, t, places, assignment, reading, first + i);
-        if !walked.calm {
+        if !walked.within {
             let zeros = [0u8; MOST_RECORDS];
             return Verdicts {
                 bytes: zeros,
-                calm: false,
+                within: false,
                 all: false,
             };
         }
@@ -90,7 +90,7 @@ pub fn constraint_values(
     }
     Verdicts {
         bytes: bytes,
-        calm: true,
+        within: true,
         all: all,
     }
 }

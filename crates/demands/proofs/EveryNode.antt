@@ -12,12 +12,12 @@ use Rattle.numbers.proofs.Tests.{&&-intro}
 use Rattle.language.specs.Syntax.{IExp, constant, variable, slot, arith, divide, negate, lookup, sum, BExp, Declarations}
 use Rattle.language.specs.Readings.{Reading}
 use Rattle.language.specs.Tables.{Row, constantRow, variableRow, slotRow, arithRow, divideRow, negateRow, boolToIntRow, lookupRow, sumRow, truthRow, variableBRow, lookupBRow, connectRow, negationRow, compareRow, quantifyRow, Tree, whole, bool, asI, asB, treeAt, treeI, treeB, fill, treesAfter, trees, freeIn}
-use Rattle.language.specs.Meaning.{Assignment, Setting, put, slotAt, count, valueI, calmValue, throughout, calmI, calmB}
-use Rattle.language.proofs.FreeSlots.{AgreeOn, valueI-agree, valueB-agree, calmI-agree, calmB-agree}
+use Rattle.language.specs.Meaning.{Assignment, Setting, put, slotAt, count, valueI, valueWithin, throughout, metWithinI, metWithinB}
+use Rattle.language.proofs.FreeSlots.{AgreeOn, valueI-agree, valueB-agree, metWithinI-agree, metWithinB-agree}
 use Rattle.language.proofs.Ranges.{throughout-all}
 use Rattle.rules.specs.Bounds.{slotInterval}
 use Rattle.rules.specs.Soundness.{Within, Fits, All, IsSlot}
-use Rattle.rules.specs.Demand.{HasValue, StaysWithin}
+use Rattle.rules.specs.TotalRows.{HasValue, StaysWithin}
 use Rattle.rules.proofs.Every.{All-snoc, All-unsnoc, All-getD}
 use Rattle.rules.proofs.Intervals.{put-fits}
 use Rattle.rules.proofs.LowEnds.{lowSetting, lowSetting-within}
@@ -31,70 +31,70 @@ module _ (ρ : Reading) (Γ : Declarations) (α : Assignment) where
   abbrev pub Stays : Tree → Type 0
   Stays t = (σ : Setting) → Fits Γ α σ → StaysWithin ρ Γ α σ t
 
-  abbrev CalmI : IExp ⊥ → Type 0
-  CalmI e = (σ : Setting) → Fits Γ α σ → T (calmI ρ Γ α e σ)
+  abbrev MetWithinI : IExp ⊥ → Type 0
+  MetWithinI e = (σ : Setting) → Fits Γ α σ → T (metWithinI ρ Γ α e σ)
 
-  abbrev CalmB : BExp ⊥ → Type 0
-  CalmB e = (σ : Setting) → Fits Γ α σ → T (calmB ρ Γ α e σ)
+  abbrev MetWithinB : BExp ⊥ → Type 0
+  MetWithinB e = (σ : Setting) → Fits Γ α σ → T (metWithinB ρ Γ α e σ)
 
   -- ---- no number beyond the limit
 
   -- A node's own value is within the limit.
-  calm-own : (e : IExp ⊥) → Valued (whole e) → (σ : Setting) → Fits Γ α σ → T (calmValue (valueI ρ Γ α e σ))
-  unfolding calmValue
-  calm-own e h σ f = let v = h σ f in rw (v .1) (v .2)
+  within-own : (e : IExp ⊥) → Valued (whole e) → (σ : Setting) → Fits Γ α σ → T (valueWithin (valueI ρ Γ α e σ))
+  unfolding valueWithin
+  within-own e h σ f = let v = h σ f in rw (v .1) (v .2)
 
   -- What stands for an operand in a table that stays within stays within too.
-  asI-calm : (t : Tree) → Stays t → CalmI (asI t)
-  unfolding asI calmI withinLimit
-  asI-calm (whole e) h = h
-  asI-calm (bool e) h = λ σ f. tt
+  asI-within : (t : Tree) → Stays t → MetWithinI (asI t)
+  unfolding asI metWithinI withinLimit
+  asI-within (whole e) h = h
+  asI-within (bool e) h = λ σ f. tt
 
-  asB-calm : (t : Tree) → Stays t → CalmB (asB t)
-  unfolding asB calmI
-  asB-calm (whole e) h = λ σ f. tt
-  asB-calm (bool e) h = h
+  asB-within : (t : Tree) → Stays t → MetWithinB (asB t)
+  unfolding asB metWithinI
+  asB-within (whole e) h = λ σ f. tt
+  asB-within (bool e) h = h
 
   zero-stays : Stays (whole (constant (pos 0)))
-  unfolding calmI withinLimit
+  unfolding metWithinI withinLimit
   zero-stays σ f = tt
 
   module _ (ts : List Tree) (h : All Stays ts) where
-    node-I : (k : ℕ) → CalmI (treeI ts k)
+    node-I : (k : ℕ) → MetWithinI (treeI ts k)
     unfolding treeI treeAt
-    node-I k = asI-calm (treeAt ts k) (All-getD Stays ts _ h zero-stays k)
+    node-I k = asI-within (treeAt ts k) (All-getD Stays ts _ h zero-stays k)
 
-    node-B : (k : ℕ) → CalmB (treeB ts k)
+    node-B : (k : ℕ) → MetWithinB (treeB ts k)
     unfolding treeB treeAt
-    node-B k = asB-calm (treeAt ts k) (All-getD Stays ts _ h zero-stays k)
+    node-B k = asB-within (treeAt ts k) (All-getD Stays ts _ h zero-stays k)
 
     -- over a slot's values
-    over-I : (s a : ℕ) (σ : Setting) → Fits Γ α σ → T (throughout (slotAt Γ s .low) (count (slotAt Γ s)) (λ d. calmI ρ Γ α (treeI ts a) (put σ s d)))
-    over-I s a σ f = throughout-all (slotAt Γ s .low) (count (slotAt Γ s)) (λ d. calmI ρ Γ α (treeI ts a) (put σ s d)) (λ k l. node-I a (put σ s (slotAt Γ s .low +ℤ pos k)) (put-fits f s k l))
+    over-I : (s a : ℕ) (σ : Setting) → Fits Γ α σ → T (throughout (slotAt Γ s .low) (count (slotAt Γ s)) (λ d. metWithinI ρ Γ α (treeI ts a) (put σ s d)))
+    over-I s a σ f = throughout-all (slotAt Γ s .low) (count (slotAt Γ s)) (λ d. metWithinI ρ Γ α (treeI ts a) (put σ s d)) (λ k l. node-I a (put σ s (slotAt Γ s .low +ℤ pos k)) (put-fits f s k l))
 
-    over-B : (s a : ℕ) (σ : Setting) → Fits Γ α σ → T (throughout (slotAt Γ s .low) (count (slotAt Γ s)) (λ d. calmB ρ Γ α (treeB ts a) (put σ s d)))
-    over-B s a σ f = throughout-all (slotAt Γ s .low) (count (slotAt Γ s)) (λ d. calmB ρ Γ α (treeB ts a) (put σ s d)) (λ k l. node-B a (put σ s (slotAt Γ s .low +ℤ pos k)) (put-fits f s k l))
+    over-B : (s a : ℕ) (σ : Setting) → Fits Γ α σ → T (throughout (slotAt Γ s .low) (count (slotAt Γ s)) (λ d. metWithinB ρ Γ α (treeB ts a) (put σ s d)))
+    over-B s a σ f = throughout-all (slotAt Γ s .low) (count (slotAt Γ s)) (λ d. metWithinB ρ Γ α (treeB ts a) (put σ s d)) (λ k l. node-B a (put σ s (slotAt Γ s .low +ℤ pos k)) (put-fits f s k l))
 
-    both-I : (a b : ℕ) (σ : Setting) → Fits Γ α σ → T (calmI ρ Γ α (treeI ts a) σ && calmI ρ Γ α (treeI ts b) σ)
-    both-I a b σ f = &&-intro (calmI ρ Γ α (treeI ts a) σ) (calmI ρ Γ α (treeI ts b) σ) (node-I a σ f) (node-I b σ f)
+    both-I : (a b : ℕ) (σ : Setting) → Fits Γ α σ → T (metWithinI ρ Γ α (treeI ts a) σ && metWithinI ρ Γ α (treeI ts b) σ)
+    both-I a b σ f = &&-intro (metWithinI ρ Γ α (treeI ts a) σ) (metWithinI ρ Γ α (treeI ts b) σ) (node-I a σ f) (node-I b σ f)
 
     -- A row over such nodes whose own value is within the limit stays within.
     fill-stays : (r : Row) → Valued (fill ts r) → Stays (fill ts r)
-    unfolding fill calmI valueI calmValue
-    fill-stays (constantRow z) v σ f = calm-own (constant z) v σ f
-    fill-stays (variableRow x) v σ f = calm-own (variable x) v σ f
-    fill-stays (slotRow s) v σ f = calm-own (slot s) v σ f
-    fill-stays (arithRow op a b) v σ f = &&-intro (calmI ρ Γ α (treeI ts a) σ && calmI ρ Γ α (treeI ts b) σ) _ (both-I a b σ f) (calm-own (arith op (treeI ts a) (treeI ts b)) v σ f)
-    fill-stays (divideRow op a b) v σ f = &&-intro (calmI ρ Γ α (treeI ts a) σ && calmI ρ Γ α (treeI ts b) σ) _ (both-I a b σ f) (calm-own (divide op (treeI ts a) (treeI ts b)) v σ f)
-    fill-stays (negateRow a) v σ f = &&-intro (calmI ρ Γ α (treeI ts a) σ) _ (node-I a σ f) (calm-own (negate (treeI ts a)) v σ f)
+    unfolding fill metWithinI valueI valueWithin
+    fill-stays (constantRow z) v σ f = within-own (constant z) v σ f
+    fill-stays (variableRow x) v σ f = within-own (variable x) v σ f
+    fill-stays (slotRow s) v σ f = within-own (slot s) v σ f
+    fill-stays (arithRow op a b) v σ f = &&-intro (metWithinI ρ Γ α (treeI ts a) σ && metWithinI ρ Γ α (treeI ts b) σ) _ (both-I a b σ f) (within-own (arith op (treeI ts a) (treeI ts b)) v σ f)
+    fill-stays (divideRow op a b) v σ f = &&-intro (metWithinI ρ Γ α (treeI ts a) σ && metWithinI ρ Γ α (treeI ts b) σ) _ (both-I a b σ f) (within-own (divide op (treeI ts a) (treeI ts b)) v σ f)
+    fill-stays (negateRow a) v σ f = &&-intro (metWithinI ρ Γ α (treeI ts a) σ) _ (node-I a σ f) (within-own (negate (treeI ts a)) v σ f)
     fill-stays (boolToIntRow a) v σ f = node-B a σ f
-    fill-stays (lookupRow A i) v σ f = &&-intro (calmI ρ Γ α (treeI ts i) σ) _ (node-I i σ f) (calm-own (lookup A (treeI ts i)) v σ f)
+    fill-stays (lookupRow A i) v σ f = &&-intro (metWithinI ρ Γ α (treeI ts i) σ) _ (node-I i σ f) (within-own (lookup A (treeI ts i)) v σ f)
     fill-stays (sumRow s a) v σ f =
-        &&-intro (throughout (slotAt Γ s .low) (count (slotAt Γ s)) (λ d. calmI ρ Γ α (treeI ts a) (put σ s d))) _ (over-I s a σ f) (calm-own (sum s (treeI ts a)) v σ f)
+        &&-intro (throughout (slotAt Γ s .low) (count (slotAt Γ s)) (λ d. metWithinI ρ Γ α (treeI ts a) (put σ s d))) _ (over-I s a σ f) (within-own (sum s (treeI ts a)) v σ f)
     fill-stays (truthRow b) v σ f = tt
     fill-stays (variableBRow x) v σ f = tt
     fill-stays (lookupBRow A i) v σ f = node-I i σ f
-    fill-stays (connectRow c a b) v σ f = &&-intro (calmB ρ Γ α (treeB ts a) σ) (calmB ρ Γ α (treeB ts b) σ) (node-B a σ f) (node-B b σ f)
+    fill-stays (connectRow c a b) v σ f = &&-intro (metWithinB ρ Γ α (treeB ts a) σ) (metWithinB ρ Γ α (treeB ts b) σ) (node-B a σ f) (node-B b σ f)
     fill-stays (negationRow a) v σ f = node-B a σ f
     fill-stays (compareRow c a b) v σ f = both-I a b σ f
     fill-stays (quantifyRow q s a) v σ f = over-B s a σ f
@@ -158,7 +158,7 @@ module _ (ρ : Reading) (Γ : Declarations) (α : Assignment) where
     unfolding freeIn
     StaysWithin-free (whole e) h σ set =
         let τ : Setting = filled variables-fit (whole e) σ set in
-        rw (calmI-agree ρ Γ α e σ τ (filled-agrees variables-fit (whole e) σ set)) (h τ (filled-fits variables-fit (whole e) σ set))
+        rw (metWithinI-agree ρ Γ α e σ τ (filled-agrees variables-fit (whole e) σ set)) (h τ (filled-fits variables-fit (whole e) σ set))
     StaysWithin-free (bool e) h σ set =
         let τ : Setting = filled variables-fit (bool e) σ set in
-        rw (calmB-agree ρ Γ α e σ τ (filled-agrees variables-fit (bool e) σ set)) (h τ (filled-fits variables-fit (bool e) σ set))
+        rw (metWithinB-agree ρ Γ α e σ τ (filled-agrees variables-fit (bool e) σ set)) (h τ (filled-fits variables-fit (bool e) σ set))

@@ -15,14 +15,14 @@ use Rattle.language.specs.Readings.{Reading}
 use Rattle.language.specs.Tables.{Tree, whole, trees}
 use Rattle.language.specs.Meaning.{Assignment, valueOf}
 use Rattle.rules.specs.Bounds.{Interval, variableInterval}
-use Rattle.rules.specs.Demand.{newRows, HasValue}
+use Rattle.rules.specs.TotalRows.{newRows, HasValue}
 use Rattle.rules.specs.Soundness.{Within, Fits, All}
-use Rattle.rules.proofs.Demand.{translation-meets-demand}
+use Rattle.rules.proofs.TotalRows.{rows-total}
 use Rattle.rules.proofs.Every.{All-map}
 use Rattle.rules.proofs.LowEnds.{lowSetting, lowSetting-within}
 use Rattle.answers.specs.Sections.{variablesAt, declarations, rows, nodeTrees}
 use Rattle.answers.specs.Answers.{assignmentFault, translated, translation}
-use Rattle.answers.proofs.Demand as Bytes
+use Rattle.answers.proofs.TotalBytes as Bytes
 use Rattle.answers.proofs.Faults.{unless-none, firstFault-none}
 use Rattle.answers.proofs.Listed.{All-at, All-lookup}
 use Rattle.answers.proofs.NewPassed.{checkFault-new}
@@ -60,7 +60,7 @@ module _ (table : List ℕ) (ρ : Reading) (h : Translatable table ρ) where
   new-valued ρ′ α =
       All-at (Valued ρ′ Γ α) (trees (newRows ρ Γ (rows table))) nothing
       (λ k l σ fits. All-lookup (HasValue ρ′ Γ α σ) (trees (newRows ρ Γ (rows table))) nothing
-      (translation-meets-demand ρ Γ (rows table) (h .passed .well-formed) (h .bounded) α σ fits ρ′ .values) k l)
+      (rows-total ρ Γ (rows table) (h .passed .well-formed) (h .bounded) α σ fits ρ′ .values) k l)
     where
       nothing : Tree
       nothing = whole (constant (pos 0))
@@ -68,7 +68,7 @@ module _ (table : List ℕ) (ρ : Reading) (h : Translatable table ρ) where
   new-solutions : (α : Assignment) → WithinDomains Γ α → (ρ′ : Reading) → SameSolutions table ρ (translation table ρ) ρ′ α
   unfolding translated nodeTrees constraintAt
   new-solutions α within ρ′ =
-      let met = Bytes.translation-meets-demand table ρ h ρ′ α (WithinDomains→none table α within) in
+      let met = Bytes.bytes-total table ρ h ρ′ α (WithinDomains→none table α within) in
       let fits : Fits Γ α (lowSetting Γ) = WithinDomains→Fits table α within in
       let valued : All (Valued ρ′ Γ α) (trees (newRows ρ Γ (rows table))) = new-valued ρ′ α in
       record {

@@ -16,9 +16,9 @@ use Rattle.language.specs.Meaning.{Assignment, valueOf}
 use Rattle.rules.specs.Bounds.{variableAt, variableInterval}
 use Rattle.rules.specs.Soundness.{Within}
 use Rattle.table.specs.Records.{HD, VR, ND, CN, recordBytes}
-use Rattle.answers.specs.Answers.{Answer, Outcome, readingOf, unset}
+use Rattle.answers.specs.Answers.{Answer, Outcome, readingOf, readingChosen, unset}
 use Rattle.answers.proofs.Computed.{checked, evaluated, translated}
-use Rattle.demands.specs.Demands.{Checks, Evaluates, Translates, chosen, constraintAt, written, WithinDomains, TotalTable}
+use Rattle.demands.specs.Demands.{Checks, Evaluates, Translates, constraintAt, written, WithinDomains, TotalTable}
 use Rattle.demands.proofs.Demands.{demand-3}
 
 -- ---- tables
@@ -150,8 +150,8 @@ pub no-copy : (version : ℕ → List ℕ → List ℕ → Outcome) → ((choice
     → ((choice : ℕ) (table lent : List ℕ) → version choice table lent .answer .number ≡ 0 → written (version choice table lent) ≡ table) → ⊥
 no-copy version keeps copies =
     let done = p4-translated _ (keeps 3 p4 (replicate 240 0)) .0 in
-    p4-is-not-total (chosen 3)
-    (subst (TotalTable p4 (chosen 3)) (copies 3 p4 (replicate 240 0) done) (demand-3 .translate 3 p4 (replicate 240 0) _ (keeps 3 p4 (replicate 240 0)) done))
+    p4-is-not-total (readingChosen 3)
+    (subst (TotalTable p4 (readingChosen 3)) (copies 3 p4 (replicate 240 0) done) (demand-3 .translate 3 p4 (replicate 240 0) _ (keeps 3 p4 (replicate 240 0)) done))
 
 -- ---- translating the first constraint and copying the others, by demand 3's "same place"
 
@@ -165,7 +165,7 @@ first-translated-is-not-total t =
 -- So no translation writes it.
 pub no-first-constraint-only : (version : ℕ → List ℕ → List ℕ → Outcome) → ((choice : ℕ) (table lent : List ℕ) → Translates choice table lent (version choice table lent))
     → written (version 3 two (replicate 500 0)) ≡ first-translated → ⊥
-unfolding chosen readingOf
+unfolding readingChosen readingOf
 no-first-constraint-only version keeps same =
     first-translated-is-not-total
     (subst (TotalTable two relational) same (demand-3 .translate 3 two (replicate 500 0) _ (keeps 3 two (replicate 500 0)) (two-translated _ (keeps 3 two (replicate 500 0)))))

@@ -14,7 +14,7 @@ use lib.Seq.{take-append-seam, drop-append-seam}
 use Rattle.numbers.proofs.Tests.{&&-fst, &&-snd}
 use Rattle.language.specs.Readings.{Reading}
 use Rattle.language.specs.Meaning.{Assignment}
-use Rattle.rules.specs.Demand.{isTrue}
+use Rattle.rules.specs.TotalRows.{isTrue}
 use Rattle.answers.specs.Sections.{constraints}
 use Rattle.answers.specs.Answers.{valueOfConstraint, verdict, verdicts, allOne}
 use Rattle.numbers.proofs.Lists.{getD-map}

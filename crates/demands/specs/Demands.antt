@@ -5,23 +5,23 @@
 -- Assumes nothing.
 use mathlib.Core.Path.{_≡_}
 use Prim.Native.Nat.{ℕ, _≤_, _<_}
-use mathlib.Core.Bool.{Bool, true, false, cond}
-use mathlib.Core.List.{List, [], _∷_, _++_}
+use mathlib.Core.Bool.{true}
+use mathlib.Core.List.{List, _++_}
 use mathlib.Core.Logic.{_↔_}
-use mathlib.Core.Option.{Option, none, some, orElse}
-use lib.Dec.{T, leb}
+use mathlib.Core.Option.{Option, none, some}
+use lib.Dec.{T}
 use lib.ListN.{length, getD, take, drop}
 use Rattle.language.specs.Syntax.{Declarations}
 use Rattle.language.specs.Tables.{Tree, freeIn}
-use Rattle.language.specs.Readings.{Reading, strict}
+use Rattle.language.specs.Readings.{Reading}
 use Rattle.language.specs.Meaning.{Assignment, Setting, valueOf, slotAt}
 use Rattle.rules.specs.Bounds.{variableInterval, slotInterval}
 use Rattle.rules.specs.Soundness.{Within, All}
-use Rattle.rules.specs.Demand.{HasValue, StaysWithin}
+use Rattle.rules.specs.TotalRows.{HasValue, StaysWithin}
 use Rattle.answers.specs.Sections.{declarations, nodeTrees, constraints}
-use Rattle.answers.specs.Check.{Refusal, refuse, checkFault}
+use Rattle.answers.specs.Check.{Refusal, first, checkOrder, checkFault}
 use Rattle.answers.specs.Answers as Answers
-use Rattle.answers.specs.Answers.{Answer, Outcome, refused, readingOf, assignmentFault, totalCost, valueOfConstraint, allCalm, verdict, boundsFault, roomFault, translation}
+use Rattle.answers.specs.Answers.{Answer, Outcome, refused, readingChosen, totalCost, valueOfConstraint, verdict, translation, evaluateOrder, translateOrder}
 use Rattle.answers.specs.Listing.{listing}
 
 -- ---- the promises
@@ -55,41 +55,8 @@ pub record OneAnswer : Type 0 where
 -- "1. Every byte string, reading number, assignment and budget gets an answer. Bad input is refused with the number that the papers give it,
 -- and a refused call changes no byte that was lent."
 
--- the first fault of a list
-unfoldable pub first : List (Option Refusal) → Option Refusal
-first [] = none
-first (f ∷ fs) = orElse f (first fs)
-
--- number n, about no record, where the test fails
-unfoldable pub refuseUnless : ℕ → Bool → Option Refusal
-refuseUnless n test = cond test none (refuse n 0)
-
--- "Choice 1 strict, 2 Kleene, 3 relational"; for any other choice every call is refused, whatever stands here
-unfoldable pub isReading : ℕ → Bool
-isReading choice = elim (readingOf choice) [ none ↦ false | some ρ ↦ true ]
-
-unfoldable pub chosen : ℕ → Reading
-chosen choice = elim (readingOf choice) [ none ↦ strict | some ρ ↦ ρ ]
-
--- "Order: 7, 1, then the first faulty record and in it 2 to 6 upward."
-unfoldable pub checkOrder : List ℕ → List (Option Refusal)
-checkOrder table = checkFault table ∷ []
-
--- "Translate: then 8, 9."
-unfoldable pub translateOrder : ℕ → List ℕ → ℕ → List (Option Refusal)
-translateOrder choice table room =
-    refuseUnless 7 (isReading choice) ∷ checkFault table ∷ boundsFault table ∷ roomFault table (chosen choice) room ∷ []
-
--- "Evaluate: then 10, 9, 11, 8."
-unfoldable pub evaluateOrder : ℕ → List ℕ → Assignment → ℕ → ℕ → List (Option Refusal)
-evaluateOrder choice table α budget room =
-    refuseUnless 7 (isReading choice)
-    ∷ checkFault table
-    ∷ assignmentFault table α
-    ∷ refuseUnless 9 (leb (length (constraints table)) room)
-    ∷ refuseUnless 11 (leb (totalCost table) budget)
-    ∷ refuseUnless 8 (allCalm table (chosen choice) α (constraints table))
-    ∷ []
+-- The orders of refusals are answers/specs: `checkOrder` (Check), `evaluateOrder` and `translateOrder` (Answers). Each answer is made of the first
+-- fault in its call's list.
 
 -- The answer of a call with these faults, whose numbers go up to `most`.
 pub record Answered (most : ℕ) (faults : List (Option Refusal)) (a : Answer) : Type 0 where
@@ -138,15 +105,15 @@ pub record Evaluated (table : List ℕ) (ρ : Reading) (α : Assignment) (lent :
 unfoldable pub written : Outcome → List ℕ
 written o = take (o .answer .length-written) (o .lent)
 
-pub record Written (table : List ℕ) (ρ : Reading) (lent : List ℕ) (o : Outcome) : Type 0 where
+pub record WrittenByRules (table : List ℕ) (ρ : Reading) (lent : List ℕ) (o : Outcome) : Type 0 where
   pub by-the-rules : written o ≡ translation table ρ
   pub rest-as-it-was : drop (o .answer .length-written) (o .lent) ≡ drop (o .answer .length-written) lent
 
 pub record Demand2 : Type 0 where
   pub evaluate : (choice : ℕ) (table : List ℕ) (α : Assignment) (budget : ℕ) (lent : List ℕ) (o : Outcome)
-      → Evaluates choice table α budget lent o → o .answer .number ≡ 0 → Evaluated table (chosen choice) α lent o
+      → Evaluates choice table α budget lent o → o .answer .number ≡ 0 → Evaluated table (readingChosen choice) α lent o
   pub translate : (choice : ℕ) (table lent : List ℕ) (o : Outcome)
-      → Translates choice table lent o → o .answer .number ≡ 0 → Written table (chosen choice) lent o
+      → Translates choice table lent o → o .answer .number ≡ 0 → WrittenByRules table (readingChosen choice) lent o
 
 -- ---- demand 3
 
@@ -182,4 +149,4 @@ pub record TotalTable (table : List ℕ) (ρ : Reading) (new : List ℕ) : Type 
 
 pub record Demand3 : Type 0 where
   pub translate : (choice : ℕ) (table lent : List ℕ) (o : Outcome)
-      → Translates choice table lent o → o .answer .number ≡ 0 → TotalTable table (chosen choice) (written o)
+      → Translates choice table lent o → o .answer .number ≡ 0 → TotalTable table (readingChosen choice) (written o)

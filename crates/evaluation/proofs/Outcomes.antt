@@ -16,7 +16,8 @@ use Rattle.language.specs.Meaning.{Assignment}
 use Rattle.answers.specs.Sections.{constraints}
 use Rattle.answers.specs.Check.{Refusal, refuse, checkFault}
 use Rattle.answers.specs.Answers as Answers
-use Rattle.answers.specs.Answers.{Outcome, refused, outcome, readingOf, underChoice, assignmentFault, totalCost, allCalm, verdicts, evaluationFault, evaluateUnder, allOne}
+use Rattle.answers.specs.Answers.{Outcome, refused, outcome, readingOf, refuseUnless, assignmentFault, totalCost, allMetWithin, verdicts, allOne, evaluateOrder, evaluationDone}
+use Rattle.answers.proofs.Orders.{no-reading, readingChosen-is, evaluate-faults}
 use Rattle.answers.proofs.Faults.{orElse-none, orElse-some, none-orElse, none-cond}
 use Rattle.steps.specs.Capped.{pastBudgets, capped}
 use Rattle.steps.proofs.Caps.{capped-low, capped-high}
@@ -27,24 +28,20 @@ use Rattle.verdict.specs.Results as Verdict
 use Rattle.verdict.specs.Results.{isNone}
 use Rattle.constraints.specs.declared.Verdicts.{Verdicts}
 use Rattle.constraints.specs.Verdicts.{verdictsOf}
-use Rattle.constraints.proofs.Found.{length-verdicts, verdictsOf-calm, verdictsOf-bytes, verdictsOf-all, verdictsOf-long}
+use Rattle.constraints.proofs.Found.{length-verdicts, verdictsOf-within, verdictsOf-bytes, verdictsOf-all, verdictsOf-long}
 use Rattle.evaluation.specs.declared.Admission.the-variants as admission
 use Rattle.evaluation.specs.declared.Totals.{Totals}
 use Rattle.evaluation.specs.declared.Evaluation.the-variants.{Done, BadChoice, Unsound, Unassigned, NoRoom, OverBudget, BeyondLimit}
 use Rattle.evaluation.specs.Results.{answerOf, outcomeOf}
-use Rattle.evaluation.specs.Admissions.{faultBefore, outcomeAfter, Admits}
+use Rattle.evaluation.specs.Admissions.{EvaluatesUnder, faultBefore, outcomeAfter, Admits}
 
 -- ---- the choice
 
-module _ (c : ℕ) (table : List ℕ) (α : Assignment) (budget : ℕ) (lent : List ℕ) where
-  -- A choice that is none: 7, and nothing is written.
-  pub refused-choice : none ≡ readingOf c → outcomeOf BadChoice lent ≡ Answers.evaluate c table α budget lent
-  unfolding Answers.evaluate underChoice outcome answerOf
-  refused-choice e = rw (Answers.evaluate, underChoice, ← e)
-
-  pub under-reading : {ρ : Reading} {o : Outcome} → some ρ ≡ readingOf c → o ≡ evaluateUnder table ρ α budget lent → o ≡ Answers.evaluate c table α budget lent
-  unfolding Answers.evaluate underChoice
-  under-reading e q = rw (Answers.evaluate, underChoice, ← e) q
+-- A choice that is none: 7, and nothing is written.
+pub refused-choice : (c : ℕ) (table : List ℕ) (α : Assignment) (budget : ℕ) (lent : List ℕ) → none ≡ readingOf c
+    → outcomeOf BadChoice lent ≡ Answers.evaluate c table α budget lent
+unfolding Answers.evaluate evaluateOrder outcome answerOf
+refused-choice c table α budget lent e = rw (no-reading c (sym e))
 
 -- ---- before the walk
 
@@ -59,7 +56,7 @@ capped-beyond n budget l h = ⊎-elim (λ m. omega (arith, capped-low n m)) (λ 
 module _ (table : List ℕ) (α : Assignment) (budget room : ℕ) (assigned : assignmentFault table α ≡ none) where
   -- 9 comes first,
   pub admits-no-room : room < length (constraints table) → Admits table α budget room admission.NoRoom
-  unfolding faultBefore
+  unfolding faultBefore refuseUnless
   admits-no-room h =
       record {
         fault = sym (orElse-none assigned ∙ orElse-some _ (ap (λ (b : Bool). cond b none (refuse 9 0)) (lt-leb (length (constraints table)) room h)));
@@ -68,7 +65,7 @@ module _ (table : List ℕ) (α : Assignment) (budget room : ℕ) (assigned : as
 
   module _ (h : length (constraints table) ≤ room) where
     to-budget : faultBefore table α budget room ≡ cond (leb (totalCost table) budget) none (refuse 11 0)
-    unfolding faultBefore
+    unfolding faultBefore refuseUnless
     to-budget = orElse-none assigned ∙ orElse-none (ap (λ (b : Bool). cond b none (refuse 9 0)) (le-leb (length (constraints table)) room h))
 
     -- then 11.
@@ -88,12 +85,12 @@ module _ (table : List ℕ) (α : Assignment) (budget room : ℕ) (assigned : as
 
 -- 10 comes before both.
 pub admits-unassigned : (table : List ℕ) (α : Assignment) (budget room p : ℕ) → refuse 10 p ≡ assignmentFault table α → Admits table α budget room (admission.Unassigned p)
-unfolding faultBefore
+unfolding faultBefore refuseUnless
 admits-unassigned table α budget room p e = record { fault = sym (orElse-some _ (sym e)); steps = λ n q. cc }
 
 -- What lets a table through leaves room for its constraints.
 pub admitted-room : (table : List ℕ) (α : Assignment) (budget room : ℕ) → none ≡ faultBefore table α budget room → length (constraints table) ≤ room
-unfolding faultBefore
+unfolding faultBefore refuseUnless
 admitted-room table α budget room e =
     leb→le (length (constraints table)) room (none-cond (leb (length (constraints table)) room) _ (none-orElse _ _ (none-orElse (assignmentFault table α) _ (sym e) .1) .0))
 
@@ -107,37 +104,39 @@ orElse-apart none (some r) c d = refl
 orElse-apart none none c d = refl
 
 module _ (table : List ℕ) (ρ : Reading) (α : Assignment) (budget : ℕ) (lent : List ℕ) where
+  -- the faults of every choice of ρ, in order
+  abbrev faults : Option Refusal
+  faults = orElse (checkFault table) (orElse (assignmentFault table α) (orElse (refuseUnless 9 (leb (length (constraints table)) (length lent))) (orElse (refuseUnless 11 (leb (totalCost table) budget)) (refuseUnless 8 (allMetWithin table ρ α (constraints table))))))
+
   -- A refusal changes no byte.
-  refusal : {r : Refusal} → evaluationFault table ρ α budget (length lent) ≡ some r
-      → record { answer = refused r; lent = lent } ≡ evaluateUnder table ρ α budget lent
-  unfolding evaluateUnder outcome
-  refusal e = rw e
+  refusal : {r : Refusal} → faults ≡ some r → EvaluatesUnder ρ table α budget lent (record { answer = refused r; lent = lent })
+  unfolding Answers.evaluate outcome
+  refusal e choice under = rw (evaluate-faults choice ρ under table (length lent) α budget, e)
 
   -- What the check refuses.
   pub refused-check : (c : Check) {b : Bool} → Verdict.answerOf c ≡ Answers.check table → b ≡ isNone (Verdict.refusalOf c) → b ≡ false
-      → outcomeOf (Unsound c) lent ≡ evaluateUnder table ρ α budget lent
-  unfolding evaluationFault answerOf Verdict.answerOf
+      → EvaluatesUnder ρ table α budget lent (outcomeOf (Unsound c) lent)
+  unfolding answerOf Verdict.answerOf
   refused-check c e q f = go (Verdict.refusalOf c) refl
     where
-      go : (o : Option Refusal) → Verdict.refusalOf c ≡ o → outcomeOf (Unsound c) lent ≡ evaluateUnder table ρ α budget lent
+      go : (o : Option Refusal) → Verdict.refusalOf c ≡ o → EvaluatesUnder ρ table α budget lent (outcomeOf (Unsound c) lent)
       go none n = absurd (unsound-some (Verdict.refusalOf c) q f n)
       go (some r) n = rw (Verdict.answerOf, n) (refusal (orElse-some _ (sym (answered→fault table c e) ∙ n)))
 
   module _ (passed : checkFault table ≡ none) where
-    fault-behind : evaluationFault table ρ α budget (length lent)
-        ≡ orElse (faultBefore table α budget (length lent)) (cond (allCalm table ρ α (constraints table)) none (refuse 8 0))
-    unfolding evaluationFault faultBefore
+    fault-behind : faults ≡ orElse (faultBefore table α budget (length lent)) (refuseUnless 8 (allMetWithin table ρ α (constraints table)))
+    unfolding faultBefore
     fault-behind = orElse-none passed ∙ orElse-apart (assignmentFault table α) _ _ _
 
     -- What is refused before the walk.
     pub refused-before : {r : Refusal} → some r ≡ faultBefore table α budget (length lent)
-        → record { answer = refused r; lent = lent } ≡ evaluateUnder table ρ α budget lent
+        → EvaluatesUnder ρ table α budget lent (record { answer = refused r; lent = lent })
     refused-before e = refusal (fault-behind ∙ orElse-some _ (sym e))
 
     -- What the walk leaves.
-    pub after-walk : {o : Outcome} → none ≡ faultBefore table α budget (length lent) → o ≡ outcomeAfter table α ρ lent → o ≡ evaluateUnder table ρ α budget lent
-    unfolding evaluateUnder outcomeAfter
-    after-walk e q = rw (fault-behind, orElse-none (sym e)) q
+    pub after-walk : {o : Outcome} → none ≡ faultBefore table α budget (length lent) → o ≡ outcomeAfter table α ρ lent → EvaluatesUnder ρ table α budget lent o
+    unfolding Answers.evaluate outcomeAfter
+    after-walk e q choice under = rw (evaluate-faults choice ρ under table (length lent) α budget, readingChosen-is choice ρ under, fault-behind, orElse-none (sym e)) q
 
 -- ---- after the walk
 
@@ -146,22 +145,22 @@ module _ (table : List ℕ) (ρ : Reading) (α : Assignment) {found : Verdicts} 
   pub long-enough : checkFault table ≡ none → length (found .bytes) ≡ 5000
   long-enough sound = ap (λ (r : Verdicts). length (r .bytes)) walked ∙ verdictsOf-long table ρ α sound
 
-  calm-or-not : {b : Bool} → found .calm ≡ b → allCalm table ρ α (constraints table) ≡ b
-  calm-or-not e = sym (verdictsOf-calm table ρ α) ∙ sym (ap (λ (r : Verdicts). r .calm) walked) ∙ e
+  within-or-not : {b : Bool} → found .within ≡ b → allMetWithin table ρ α (constraints table) ≡ b
+  within-or-not e = sym (verdictsOf-within table ρ α) ∙ sym (ap (λ (r : Verdicts). r .within) walked) ∙ e
 
   module _ (lent : List ℕ) where
     -- 8 comes last,
-    pub refused-limit : found .calm ≡ false → outcomeOf BeyondLimit lent ≡ outcomeAfter table α ρ lent
-    unfolding outcomeAfter outcome answerOf
-    refused-limit e = rw (calm-or-not e)
+    pub refused-limit : found .within ≡ false → outcomeOf BeyondLimit lent ≡ outcomeAfter table α ρ lent
+    unfolding outcomeAfter outcome refuseUnless answerOf
+    refused-limit e = rw (within-or-not e)
 
     -- and then the bytes are written.
-    pub written : {totals : Totals} {after : List ℕ} → found .calm ≡ true → totals .steps ≡ totalCost table → totals .written ≡ length (constraints table) → totals .all ≡ found .all
+    pub written : {totals : Totals} {after : List ℕ} → found .within ≡ true → totals .steps ≡ totalCost table → totals .written ≡ length (constraints table) → totals .all ≡ found .all
         → after ≡ take (totals .written) (found .bytes) ++ drop (totals .written) lent → outcomeOf (Done totals) after ≡ outcomeAfter table α ρ lent
-    unfolding outcomeAfter outcome answerOf
+    unfolding outcomeAfter outcome refuseUnless evaluationDone answerOf
     written {totals} {after} c s w a e =
-        let calm : allCalm table ρ α (constraints table) ≡ true = calm-or-not c in
-        let bytes : take (totals .written) (found .bytes) ≡ verdicts table ρ α = rw (w, walked) (verdictsOf-bytes table ρ α calm) in
+        let within : allMetWithin table ρ α (constraints table) ≡ true = within-or-not c in
+        let bytes : take (totals .written) (found .bytes) ≡ verdicts table ρ α = rw (w, walked) (verdictsOf-bytes table ρ α within) in
         let count : totals .written ≡ length (verdicts table ρ α) = w ∙ sym (length-verdicts table ρ α) in
-        let all : found .all ≡ allOne (verdicts table ρ α) = ap (λ (r : Verdicts). r .all) walked ∙ verdictsOf-all table ρ α calm in
-        rw (calm, e, bytes, s, count, a, all)
+        let all : found .all ≡ allOne (verdicts table ρ α) = ap (λ (r : Verdicts). r .all) walked ∙ verdictsOf-all table ρ α within in
+        rw (within, e, bytes, s, count, a, all)

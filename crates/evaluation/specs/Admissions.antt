@@ -2,31 +2,34 @@
 -- Assumes nothing.
 use mathlib.Core.Path.{_≡_}
 use Prim.Native.Nat.{ℕ}
-use mathlib.Core.Bool.{cond}
 use mathlib.Core.List.{List}
-use mathlib.Core.Option.{Option, none, orElse}
+use mathlib.Core.Option.{Option, none, some, orElse}
 use lib.Dec.{leb}
 use lib.ListN.{length}
 use Rattle.language.specs.Readings.{Reading}
 use Rattle.language.specs.Meaning.{Assignment}
 use Rattle.answers.specs.Sections.{constraints}
 use Rattle.answers.specs.Check.{Refusal, refuse}
-use Rattle.answers.specs.Answers.{Outcome, outcome, done, assignmentFault, totalCost, allCalm, verdicts, allOne}
+use Rattle.answers.specs.Answers as Answers
+use Rattle.answers.specs.Answers.{Outcome, outcome, readingOf, refuseUnless, assignmentFault, totalCost, allMetWithin, verdicts, evaluationDone}
 use Rattle.evaluation.specs.declared.Admission.{Admission}
 use Rattle.evaluation.specs.declared.Admission.the-variants.{Steps, Unassigned, NoRoom, OverBudget}
+
+-- the outcome of every choice of the reading ρ
+abbrev pub EvaluatesUnder : Reading → List ℕ → Assignment → ℕ → List ℕ → Outcome → Type 0
+EvaluatesUnder ρ table α budget lent o = (choice : ℕ) → readingOf choice ≡ some ρ → o ≡ Answers.evaluate choice table α budget lent
 
 module _ (table : List ℕ) (α : Assignment) where
   -- "Evaluate: then 10, 9, 11"
   unfoldable pub faultBefore : ℕ → ℕ → Option Refusal
   faultBefore budget room =
       orElse (assignmentFault table α)
-      (orElse (cond (leb (length (constraints table)) room) none (refuse 9 0)) (cond (leb (totalCost table) budget) none (refuse 11 0)))
+      (orElse (refuseUnless 9 (leb (length (constraints table)) room)) (refuseUnless 11 (leb (totalCost table) budget)))
 
   -- ", 8", or the bytes
   unfoldable pub outcomeAfter : Reading → List ℕ → Outcome
   outcomeAfter ρ lent =
-      outcome (cond (allCalm table ρ α (constraints table)) none (refuse 8 0))
-      (done (totalCost table) (length (verdicts table ρ α)) (allOne (verdicts table ρ α))) (verdicts table ρ α) lent
+      outcome (refuseUnless 8 (allMetWithin table ρ α (constraints table))) (evaluationDone table ρ α) (verdicts table ρ α) lent
 
 abbrev pub admissionFault : Admission → Option Refusal
 admissionFault (Steps n) = none

@@ -7,11 +7,11 @@ ghost use lib.ListN.{length, take, drop};
 ghost use Rattle.answers.specs.Sections.{constraints};
 ghost use Rattle.answers.specs.Check.{checkFault};
 ghost use Rattle.answers.specs.Answers as Answers;
-ghost use Rattle.answers.specs.Answers.{assignmentFault, totalCost, evaluateUnder};
+ghost use Rattle.answers.specs.Answers.{assignmentFault, totalCost};
 ghost use Rattle.sections.specs.Places.{placesOf};
 ghost use Rattle.reading.specs.Readings.{meant};
 ghost use Rattle.evaluation.specs.Results.{answerOf, outcomeOf};
-ghost use Rattle.evaluation.specs.Admissions.{outcomeAfter, Admits};
+ghost use Rattle.evaluation.specs.Admissions.{outcomeAfter, Admits, EvaluatesUnder};
 use assignment::Assigned;
 use assignment::check_assignment;
 use constraints::constraint_values;
@@ -130,7 +130,7 @@ fn evaluate_admitted(
     fill(&mut t, table);
     let places = lay_out(table, at);
     let found = constraint_values(table, at, &t, &places, assignment, reading);
-    if !found.calm {
+    if !found.within {
         return Evaluation::BeyondLimit;
     }
     let bytes = found.bytes;
@@ -151,7 +151,7 @@ fn evaluate_under(
     budget: u32,
     verdicts: &mut [u8],
 ) -> Evaluation
-    ensures { λ r. ⌜ outcomeOf r (now (verdicts .exit)) ≡ evaluateUnder (now (table .entry)) (meant reading) (now (assignment .entry)) budget (now (verdicts .entry)) ⌝ }
+    ensures { λ r. ⌜ EvaluatesUnder (meant reading) (now (table .entry)) (now (assignment .entry)) budget (now (verdicts .entry)) (outcomeOf r (now (verdicts .exit))) ⌝ }
 {
     let c = checker::check(table);
     if !is_sound(c) {

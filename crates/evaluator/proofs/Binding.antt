@@ -14,10 +14,10 @@ use Rattle.language.specs.Syntax as syntax
 use Rattle.language.specs.Tables.{treeI, treeB}
 use Rattle.language.specs.Readings as readings
 use Rattle.language.specs.Readings.{both, connective, joins, ofNone, over, quantified, summed}
-use Rattle.language.specs.Meaning.{Assignment, put, slotAt, count, valueI, valueB, calmValue, throughout, calmI, calmB}
+use Rattle.language.specs.Meaning.{Assignment, put, slotAt, count, valueI, valueB, valueWithin, throughout, metWithinI, metWithinB}
 use Rattle.operations.specs.declared.values.Walked.{Walked}
 use Rattle.operations.specs.declared.sums.Total.{Total}
-use Rattle.operations.specs.Values.{ofInteger, ofTruth, ofCalm, limitedTo}
+use Rattle.operations.specs.Values.{ofInteger, ofTruth, ofWalk, limitedTo}
 use Rattle.operations.specs.Truths.{connected}
 use Rattle.operations.specs.Sums.{totalOf, totalValue, plusTo}
 use Rattle.evaluator.specs.Walks.{declared, treesOf, settingOf, integerWalked, truthWalked, integerAt, truthAt, sumAt, quantifiedAt}
@@ -39,7 +39,7 @@ settingOf-set values s d h =
 
 -- ---- sums
 
-plus-total : (c d : Bool) (u v : Option ℤ) → plusTo (totalOf c u) (ofCalm d (ofInteger v)) ≡ totalOf (c && d) (both (λ x y. some (x +ℤ y)) u v)
+plus-total : (c d : Bool) (u v : Option ℤ) → plusTo (totalOf c u) (ofWalk d (ofInteger v)) ≡ totalOf (c && d) (both (λ x y. some (x +ℤ y)) u v)
 unfolding plusTo both
 plus-total true true (some x) (some y) = refl
 plus-total true true (some x) none = refl
@@ -48,8 +48,8 @@ plus-total true false (some x) v = refl
 plus-total true false none v = refl
 plus-total false d u v = refl
 
-limited-total : (c : Bool) (v : Option ℤ) → limitedTo (totalOf c v .calm) (totalValue (totalOf c v)) ≡ ofCalm (c && calmValue v) (ofInteger v)
-unfolding limitedTo calmValue
+limited-total : (c : Bool) (v : Option ℤ) → limitedTo (totalOf c v .within) (totalValue (totalOf c v)) ≡ ofWalk (c && valueWithin v) (ofInteger v)
+unfolding limitedTo valueWithin
 limited-total true (some z) = refl
 limited-total true none = refl
 limited-total false v = refl
@@ -58,7 +58,7 @@ module _ (ρ : readings.Reading) (bs places : List ℕ) (α : Assignment) (value
   -- the sum of the first k values
   unfoldable pub totalTo : ℕ → Total
   totalTo k =
-      totalOf (throughout (slotAt (declared bs places) s .low) k (λ d. calmI ρ (declared bs places) α (treeI (treesOf bs places) a) (put (settingOf values) s d)))
+      totalOf (throughout (slotAt (declared bs places) s .low) k (λ d. metWithinI ρ (declared bs places) α (treeI (treesOf bs places) a) (put (settingOf values) s d)))
       (summed (slotAt (declared bs places) s .low) k (λ d. valueI ρ (declared bs places) α (treeI (treesOf bs places) a) (put (settingOf values) s d)))
 
   pub total-none : totalOf true (some (pos 0)) ≡ totalTo 0
@@ -69,16 +69,16 @@ module _ (ρ : readings.Reading) (bs places : List ℕ) (α : Assignment) (value
   unfolding totalTo integerAt integerWalked throughout summed over
   total-more k h =
       rw (settingOf-set values s (slotAt (declared bs places) s .low +ℤ pos k) h)
-      (plus-total (over _&&_ true (slotAt (declared bs places) s .low) k (λ d. calmI ρ (declared bs places) α (treeI (treesOf bs places) a) (put (settingOf values) s d)))
-      (calmI ρ (declared bs places) α (treeI (treesOf bs places) a) (put (settingOf values) s (slotAt (declared bs places) s .low +ℤ pos k)))
+      (plus-total (over _&&_ true (slotAt (declared bs places) s .low) k (λ d. metWithinI ρ (declared bs places) α (treeI (treesOf bs places) a) (put (settingOf values) s d)))
+      (metWithinI ρ (declared bs places) α (treeI (treesOf bs places) a) (put (settingOf values) s (slotAt (declared bs places) s .low +ℤ pos k)))
       (over (both (λ x y. some (x +ℤ y))) (some (pos 0)) (slotAt (declared bs places) s .low) k (λ d. valueI ρ (declared bs places) α (treeI (treesOf bs places) a) (put (settingOf values) s d)))
       (valueI ρ (declared bs places) α (treeI (treesOf bs places) a) (put (settingOf values) s (slotAt (declared bs places) s .low +ℤ pos k))))
 
-  pub sum-total : limitedTo (totalTo (count (slotAt (declared bs places) s)) .calm) (totalValue (totalTo (count (slotAt (declared bs places) s)))) ≡ sumAt ρ bs places α values s a
-  unfolding totalTo sumAt integerWalked valueI calmI
+  pub sum-total : limitedTo (totalTo (count (slotAt (declared bs places) s)) .within) (totalValue (totalTo (count (slotAt (declared bs places) s)))) ≡ sumAt ρ bs places α values s a
+  unfolding totalTo sumAt integerWalked valueI metWithinI
   sum-total =
       limited-total
-      (throughout (slotAt (declared bs places) s .low) (count (slotAt (declared bs places) s)) (λ d. calmI ρ (declared bs places) α (treeI (treesOf bs places) a) (put (settingOf values) s d)))
+      (throughout (slotAt (declared bs places) s .low) (count (slotAt (declared bs places) s)) (λ d. metWithinI ρ (declared bs places) α (treeI (treesOf bs places) a) (put (settingOf values) s d)))
       (summed (slotAt (declared bs places) s .low) (count (slotAt (declared bs places) s)) (λ d. valueI ρ (declared bs places) α (treeI (treesOf bs places) a) (put (settingOf values) s d)))
 
 -- ---- quantifiers
@@ -87,10 +87,10 @@ module _ (ρ : readings.Reading) (bs places : List ℕ) (α : Assignment) (value
   -- the quantifier over the first k values
   unfoldable pub jointTo : ℕ → Walked
   jointTo k =
-      ofCalm (throughout (slotAt (declared bs places) s .low) k (λ d. calmB ρ (declared bs places) α (treeB (treesOf bs places) a) (put (settingOf values) s d)))
+      ofWalk (throughout (slotAt (declared bs places) s .low) k (λ d. metWithinB ρ (declared bs places) α (treeB (treesOf bs places) a) (put (settingOf values) s d)))
       (ofTruth (quantified ρ q (slotAt (declared bs places) s .low) k (λ d. valueB ρ (declared bs places) α (treeB (treesOf bs places) a) (put (settingOf values) s d))))
 
-  pub joint-none : ofCalm true (ofTruth (some (ofNone q))) ≡ jointTo 0
+  pub joint-none : ofWalk true (ofTruth (some (ofNone q))) ≡ jointTo 0
   unfolding jointTo throughout quantified over
   joint-none = refl
 
@@ -100,11 +100,11 @@ module _ (ρ : readings.Reading) (bs places : List ℕ) (α : Assignment) (value
   joint-more k h =
       rw (settingOf-set values s (slotAt (declared bs places) s .low +ℤ pos k) h)
       (both-truths (connective ρ (joins q))
-      (over _&&_ true (slotAt (declared bs places) s .low) k (λ d. calmB ρ (declared bs places) α (treeB (treesOf bs places) a) (put (settingOf values) s d)))
-      (calmB ρ (declared bs places) α (treeB (treesOf bs places) a) (put (settingOf values) s (slotAt (declared bs places) s .low +ℤ pos k)))
+      (over _&&_ true (slotAt (declared bs places) s .low) k (λ d. metWithinB ρ (declared bs places) α (treeB (treesOf bs places) a) (put (settingOf values) s d)))
+      (metWithinB ρ (declared bs places) α (treeB (treesOf bs places) a) (put (settingOf values) s (slotAt (declared bs places) s .low +ℤ pos k)))
       (over (connective ρ (joins q)) (some (ofNone q)) (slotAt (declared bs places) s .low) k (λ d. valueB ρ (declared bs places) α (treeB (treesOf bs places) a) (put (settingOf values) s d)))
       (valueB ρ (declared bs places) α (treeB (treesOf bs places) a) (put (settingOf values) s (slotAt (declared bs places) s .low +ℤ pos k))))
 
   pub quantified-joint : jointTo (count (slotAt (declared bs places) s)) ≡ quantifiedAt ρ bs places α values q s a
-  unfolding jointTo quantifiedAt truthWalked valueB calmB
+  unfolding jointTo quantifiedAt truthWalked valueB metWithinB
   quantified-joint = refl

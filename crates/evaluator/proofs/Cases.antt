@@ -12,7 +12,7 @@ use Rattle.language.specs.Syntax as syntax
 use Rattle.language.specs.Tables.{Row, constantRow, variableRow, slotRow, arithRow, divideRow, negateRow, boolToIntRow, lookupRow, sumRow, truthRow, variableBRow, lookupBRow, connectRow, negationRow, compareRow, quantifyRow, asI, asB, treeI, treeB, treeAt, fill, trees}
 use Rattle.language.specs.Readings as readings
 use Rattle.language.specs.Readings.{arithmetic, division}
-use Rattle.language.specs.Meaning.{Assignment, isOne, valueOf, valueI, valueB, calmValue, calmI, calmB}
+use Rattle.language.specs.Meaning.{Assignment, isOne, valueOf, valueI, valueB, valueWithin, metWithinI, metWithinB}
 use Rattle.language.proofs.Trees.{tree-at, NamesBelow}
 use Rattle.answers.specs.Sections.{listed}
 use Rattle.operations.specs.declared.values.Value.the-variants.{Truth}
@@ -21,7 +21,7 @@ use Rattle.evaluator.specs.declared.decoded.IntegerNode.{IntegerNode}
 use Rattle.evaluator.specs.declared.decoded.IntegerNode.the-variants as integer
 use Rattle.evaluator.specs.declared.decoded.TruthNode.{TruthNode}
 use Rattle.evaluator.specs.declared.decoded.TruthNode.the-variants as truth
-use Rattle.operations.specs.Values.{integerOf, ofCalm, limitedTo}
+use Rattle.operations.specs.Values.{integerOf, ofWalk, limitedTo}
 use Rattle.operations.specs.Integers.{arithmeticOf, divisionOf, integers, negated, numbered}
 use Rattle.operations.specs.Truths.{connectiveOf, compared, connected, opposed}
 use Rattle.evaluator.specs.Nodes.{integerCase, truthCase}
@@ -64,8 +64,8 @@ integer-below n (slotRow s) h = h
 integer-below n (arithRow syntax.plus a b) h = h
 integer-below n (arithRow syntax.minus a b) h = h
 integer-below n (arithRow syntax.times a b) h = h
-integer-below n (arithRow syntax.least a b) h = h
-integer-below n (arithRow syntax.most a b) h = h
+integer-below n (arithRow syntax.minimum a b) h = h
+integer-below n (arithRow syntax.maximum a b) h = h
 integer-below n (divideRow syntax.quot a b) h = h
 integer-below n (divideRow syntax.rem a b) h = h
 integer-below n (negateRow a) h = h
@@ -121,8 +121,8 @@ module _ (ρ : readings.Reading) (bs places : List ℕ) (α : Assignment) (value
   integerOfCase (integer.Sum s a) = sumAt ρ bs places α values (s .0) (a .0)
 
   abbrev pub truthOfCase : TruthNode → Walked
-  truthOfCase (truth.Constant v) = ofCalm true v
-  truthOfCase (truth.Variable v) = ofCalm true (Truth (isOne (valueOf α (v .0))))
+  truthOfCase (truth.Constant v) = ofWalk true v
+  truthOfCase (truth.Variable v) = ofWalk true (Truth (isOne (valueOf α (v .0))))
   truthOfCase (truth.Lookup A i) = lookedUpTruth ρ (declared bs places) α (A .0) (integerAt ρ bs places α values (i .0))
   truthOfCase (truth.Connected op a b) = connected ρ (connectiveOf op) (truthAt ρ bs places α values (a .0)) (truthAt ρ bs places α values (b .0))
   truthOfCase (truth.Not a) = opposed (truthAt ρ bs places α values (a .0))
@@ -135,15 +135,15 @@ module _ (ρ : readings.Reading) (bs places : List ℕ) (α : Assignment) (value
 
   -- A filled row, walked as an integer, is its case.
   filled-integer : (r : Row) → integerWalked ρ (declared bs places) α (asI (fill (treesOf bs places) r)) (settingOf values) ≡ integerOfCase (integerCase r)
-  unfolding integerCase asI fill integerAt truthAt integerWalked valueI calmI limitedTo calmValue sumAt withinLimit truthWalked
+  unfolding integerCase asI fill integerAt truthAt integerWalked valueI metWithinI limitedTo valueWithin sumAt withinLimit truthWalked
   filled-integer (constantRow z) = refl
   filled-integer (variableRow v) = refl
   filled-integer (slotRow s) = refl
   filled-integer (arithRow syntax.plus a b) = walked-arith ρ (declared bs places) α (settingOf values) syntax.plus (treeI (treesOf bs places) a) (treeI (treesOf bs places) b)
   filled-integer (arithRow syntax.minus a b) = walked-arith ρ (declared bs places) α (settingOf values) syntax.minus (treeI (treesOf bs places) a) (treeI (treesOf bs places) b)
   filled-integer (arithRow syntax.times a b) = walked-arith ρ (declared bs places) α (settingOf values) syntax.times (treeI (treesOf bs places) a) (treeI (treesOf bs places) b)
-  filled-integer (arithRow syntax.least a b) = walked-arith ρ (declared bs places) α (settingOf values) syntax.least (treeI (treesOf bs places) a) (treeI (treesOf bs places) b)
-  filled-integer (arithRow syntax.most a b) = walked-arith ρ (declared bs places) α (settingOf values) syntax.most (treeI (treesOf bs places) a) (treeI (treesOf bs places) b)
+  filled-integer (arithRow syntax.minimum a b) = walked-arith ρ (declared bs places) α (settingOf values) syntax.minimum (treeI (treesOf bs places) a) (treeI (treesOf bs places) b)
+  filled-integer (arithRow syntax.maximum a b) = walked-arith ρ (declared bs places) α (settingOf values) syntax.maximum (treeI (treesOf bs places) a) (treeI (treesOf bs places) b)
   filled-integer (divideRow syntax.quot a b) = walked-divide ρ (declared bs places) α (settingOf values) syntax.quot (treeI (treesOf bs places) a) (treeI (treesOf bs places) b)
   filled-integer (divideRow syntax.rem a b) = walked-divide ρ (declared bs places) α (settingOf values) syntax.rem (treeI (treesOf bs places) a) (treeI (treesOf bs places) b)
   filled-integer (negateRow a) = walked-negate ρ (declared bs places) α (settingOf values) (treeI (treesOf bs places) a)
@@ -159,7 +159,7 @@ module _ (ρ : readings.Reading) (bs places : List ℕ) (α : Assignment) (value
   filled-integer (quantifyRow q s a) = refl
 
   filled-truth : (r : Row) → truthWalked ρ (declared bs places) α (asB (fill (treesOf bs places) r)) (settingOf values) ≡ truthOfCase (truthCase r)
-  unfolding truthCase asB fill integerAt truthAt integerWalked truthWalked valueB calmB quantifiedAt
+  unfolding truthCase asB fill integerAt truthAt integerWalked truthWalked valueB metWithinB quantifiedAt
   filled-truth (truthRow b) = refl
   filled-truth (variableBRow v) = refl
   filled-truth (lookupBRow A i) = walked-lookupB ρ (declared bs places) α (settingOf values) A (treeI (treesOf bs places) i)

@@ -77,7 +77,7 @@ module _ (ρ : readings.Reading) (bs places : List ℕ) (α : Assignment) (value
   sum-turn k h p q e g t = t ∙ rw (p, g, q, e, add-one k) (total-more ρ bs places α values s a k h)
 
   pub sum-done : (k : ℕ) {total : Total} {r : Range} {m : Walked} → total ≡ totalTo ρ bs places α values s a k → r ≡ rangeOf (slotAt (declared bs places) s) → k ≡ r .count →
-      m ≡ limitedTo (total .calm) (totalValue total) → m ≡ sumAt ρ bs places α values s a
+      m ≡ limitedTo (total .within) (totalValue total) → m ≡ sumAt ρ bs places α values s a
   sum-done k p e c g = g ∙ rw (p, c ∙ ap (λ (r : Range). r .count) e) (sum-total ρ bs places α values s a)
 
   module _ (q : syntax.Quantifier) where

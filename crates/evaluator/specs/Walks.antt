@@ -1,4 +1,4 @@
--- What a walk over a node of a table gives: the language's value and calm, over what the table declares. The table stands, padded with 0,
+-- What a walk over a node of a table gives: the language's value and whether it stays within the limit, over what the table declares. The table stands, padded with 0,
 -- in a fixed array of bytes, and where its sections lie in an array of places: the record of each array, and behind them the first
 -- slot's record, how many slots and arrays there are, the first node's record, and how many nodes.
 -- Assumes nothing.
@@ -14,8 +14,8 @@ use Rattle.language.specs.Syntax as syntax
 use Rattle.language.specs.Syntax.{IExp, BExp, Slot, Declarations}
 use Rattle.language.specs.Tables.{Row, constantRow, variableRow, slotRow, arithRow, divideRow, negateRow, boolToIntRow, lookupRow, sumRow, truthRow, variableBRow, lookupBRow, connectRow, negationRow, compareRow, quantifyRow, Tree, trees, treeI, treeB}
 use Rattle.language.specs.Readings as readings
-use Rattle.language.specs.Readings.{closed}
-use Rattle.language.specs.Meaning.{Assignment, Setting, arrayAt, count, isOne, valueOf, elementAt, valueI, valueB, calmI, calmB}
+use Rattle.language.specs.Readings.{atomic}
+use Rattle.language.specs.Meaning.{Assignment, Setting, arrayAt, count, isOne, valueOf, elementAt, valueI, valueB, metWithinI, metWithinB}
 use Rattle.language.proofs.Trees.{NamesBelow}
 use Rattle.answers.specs.Sections.{listed, variableOf, slotOf, arrayOf, behindArray, rowOf}
 use Rattle.operations.specs.declared.values.Walked.{Walked}
@@ -24,7 +24,7 @@ use Rattle.operations.specs.declared.values.Quantifier.the-variants.{Exists, Fo
 use Rattle.evaluator.specs.declared.lookups.Leaf.{Leaf}
 use Rattle.evaluator.specs.declared.lookups.Leaf.the-variants.{Is, Other}
 use Rattle.evaluator.specs.declared.ranges.Range.{Range}
-use Rattle.operations.specs.Values.{ofInteger, ofTruth, integerOf, ofCalm, limitedTo, truthTo}
+use Rattle.operations.specs.Values.{ofInteger, ofTruth, integerOf, ofWalk, limitedTo, truthTo}
 use Rattle.evaluator.specs.Nodes.{nodesFrom}
 
 abbrev pub slotsFrom : List ℕ → ℕ
@@ -78,17 +78,17 @@ rangeOf s = record { low = s .low; count = count s }
 
 module _ (ρ : readings.Reading) (Γ : Declarations) (α : Assignment) where
   unfoldable pub integerWalked : IExp ⊥ → Setting → Walked
-  integerWalked e σ = ofCalm (calmI ρ Γ α e σ) (ofInteger (valueI ρ Γ α e σ))
+  integerWalked e σ = ofWalk (metWithinI ρ Γ α e σ) (ofInteger (valueI ρ Γ α e σ))
 
   unfoldable pub truthWalked : BExp ⊥ → Setting → Walked
-  truthWalked e σ = ofCalm (calmB ρ Γ α e σ) (ofTruth (valueB ρ Γ α e σ))
+  truthWalked e σ = ofWalk (metWithinB ρ Γ α e σ) (ofTruth (valueB ρ Γ α e σ))
 
   -- an array at an index that was walked
   unfoldable pub lookedUp : ℕ → Walked → Walked
-  lookedUp A i = limitedTo (i .calm) (bind (integerOf (i .value)) (elementAt α (arrayAt Γ A)))
+  lookedUp A i = limitedTo (i .within) (bind (integerOf (i .value)) (elementAt α (arrayAt Γ A)))
 
   unfoldable pub lookedUpTruth : ℕ → Walked → Walked
-  lookedUpTruth A i = truthTo (i .calm) (closed ρ (Option·map isOne (bind (integerOf (i .value)) (elementAt α (arrayAt Γ A)))))
+  lookedUpTruth A i = truthTo (i .within) (atomic ρ (Option·map isOne (bind (integerOf (i .value)) (elementAt α (arrayAt Γ A)))))
 
 -- an integer leaf's value; any other row is none
 unfoldable pub leafOf : Assignment → Setting → Row → Leaf

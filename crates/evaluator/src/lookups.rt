@@ -107,9 +107,9 @@ pub fn looked_up(
 {
     let v = index.value;
     match v {
-        Value::Integer(i) => limited_value(index.calm, element(t, places, assignment, array, i)),
-        Value::Truth(_) => undefined(index.calm),
-        Value::Undefined => undefined(index.calm),
+        Value::Integer(i) => limited_value(index.within, element(t, places, assignment, array, i)),
+        Value::Truth(_) => undefined(index.within),
+        Value::Undefined => undefined(index.within),
     }
 }
 
@@ -129,11 +129,11 @@ pub fn looked_up_truth(
     match v {
         Value::Integer(i) => element_truth(
             reading,
-            index.calm,
+            index.within,
             element(t, places, assignment, array, i),
         ),
-        Value::Truth(_) => element_truth(reading, index.calm, Value::Undefined),
-        Value::Undefined => element_truth(reading, index.calm, Value::Undefined),
+        Value::Truth(_) => element_truth(reading, index.within, Value::Undefined),
+        Value::Undefined => element_truth(reading, index.within, Value::Undefined),
     }
 }
 

@@ -7,7 +7,7 @@ ghost use lib.IntN.{pos};
 ghost use lib.ListN.{replicate};
 ghost use Rattle.language.specs.Readings as readings;
 ghost use Rattle.reading.specs.Readings.{meant};
-ghost use Rattle.operations.specs.Values.{ofTruth, ofCalm};
+ghost use Rattle.operations.specs.Values.{ofTruth, ofWalk};
 ghost use Rattle.operations.specs.Truths.{connectiveOf};
 ghost use Rattle.evaluator.specs.Walks.{Laid, Ready, nodeCount, quantifierOf, integerAt, truthAt, sumAt, quantifiedAt};
 use crate::decoded::IntegerNode;
@@ -38,7 +38,7 @@ use operations::values::Quantifier;
 use operations::values::Walked;
 use operations::values::limited;
 use operations::values::limited_value;
-use operations::values::of_calm;
+use operations::values::of_walk;
 use operations::values::truth_of;
 use reading::Reading;
 use table::MOST_BYTES;
@@ -115,7 +115,7 @@ fn truth(
     ensures { λ r. ⌜ (r ≡ truthAt (meant reading) (now (t .entry)) (now (places .entry)) (now (assignment .entry)) (now (setting .entry)) (n .0)) × (now (setting .exit) ≡ now (setting .entry)) ⌝ }
 {
     match truth_node(t, places, n) {
-        TruthNode::Constant(v) => of_calm(true, v),
+        TruthNode::Constant(v) => of_walk(true, v),
         TruthNode::Variable(v) => truth_of(true, variable(assignment, v) == 1),
         TruthNode::Lookup(a, i) => {
             let x = operand(t, places, assignment, setting, reading, i);
@@ -209,7 +209,7 @@ fn sum(
 
 // A quantifier over an empty range.
 fn empty(q: Quantifier) -> Walked
-    ensures { λ r. ⌜ r ≡ ofCalm true (ofTruth (some (readings.ofNone (quantifierOf q)))) ⌝ }
+    ensures { λ r. ⌜ r ≡ ofWalk true (ofTruth (some (readings.ofNone (quantifierOf q)))) ⌝ }
 {
     match q {
         Quantifier::Exists => truth_of(true, false),

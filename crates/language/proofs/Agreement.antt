@@ -4,7 +4,7 @@ use mathlib.Core.Path.{_≡_, refl, ap₂, _∙_}
 use mathlib.Core.Bool.{Bool, true, false}
 use mathlib.Core.Option.{Option, some}
 use Rattle.language.specs.Syntax.{Connective, conj, disj, implies, iff}
-use Rattle.language.specs.Readings.{Reading, strict, kleene, relational, both, logic, strictly, kleeneAnd, kleeneOr, opposite, kleenely, connective, closed}
+use Rattle.language.specs.Readings.{Reading, strict, kleene, relational, both, logic, strictly, kleeneAnd, kleeneOr, opposite, kleenely, connective, atomic}
 
 -- Kleene's tables are ordinary logic there.
 kleenely-some : (c : Connective) (a b : Bool) → kleenely c (some a) (some b) ≡ some (logic c a b)
@@ -29,8 +29,8 @@ pub connective-of : (ρ : Reading) (c : Connective) {v w : Option Bool} {a b : B
 connective-of ρ c {a = a} {b = b} p q = ap₂ (connective ρ c) p q ∙ connective-some ρ c a b
 
 -- A comparison or Boolean lookup with defined operands has its value in each reading.
-pub closed-some : (ρ : Reading) (b : Bool) → closed ρ (some b) ≡ some b
-unfolding closed
-closed-some strict b = refl
-closed-some kleene b = refl
-closed-some relational b = refl
+pub atomic-some : (ρ : Reading) (b : Bool) → atomic ρ (some b) ≡ some b
+unfolding atomic
+atomic-some strict b = refl
+atomic-some kleene b = refl
+atomic-some relational b = refl

@@ -10,7 +10,7 @@ use lib.IntN.{ℤ}
 use Rattle.language.specs.Syntax.{IExp, constant, variable, slot, arith, divide, negate, boolToInt, lookup, sum, iref, BExp, truth, variableB, lookupB, connect, negation, compare, quantify, bref, Declarations}
 use Rattle.language.specs.Tables.{freeI, freeB}
 use Rattle.language.specs.Readings.{Reading, summed, quantified}
-use Rattle.language.specs.Meaning.{Assignment, Setting, put, slotAt, count, valueI, valueB, calmValue, throughout, calmI, calmB}
+use Rattle.language.specs.Meaning.{Assignment, Setting, put, slotAt, count, valueI, valueB, valueWithin, throughout, metWithinI, metWithinB}
 
 -- the settings agree on the slots that the test picks
 abbrev pub AgreeOn : (ℕ → Bool) → Setting → Setting → Type 0
@@ -84,36 +84,36 @@ module _ (ρ : Reading) (Γ : Declarations) (α : Assignment) where
     valueB-agree (bref r) σ τ h = absurd r
 
   mutual
-    unfolding calmI freeI
+    unfolding metWithinI freeI
 
     -- Whether a walk over an integer expression stays within the limit depends on its free slots alone.
-    pub calmI-agree : (e : IExp ⊥) (σ τ : Setting) → AgreeOn (inI e) σ τ → calmI ρ Γ α e σ ≡ calmI ρ Γ α e τ
-    calmI-agree (constant z) σ τ h = refl
-    calmI-agree (variable v) σ τ h = refl
-    calmI-agree (slot s) σ τ h = rw (h s (eqb-refl s))
-    calmI-agree (arith op a b) σ τ h =
-        rw (calmI-agree a σ τ (AgreeOn-left (inI a) (inI b) h), calmI-agree b σ τ (AgreeOn-right (inI a) (inI b) h), valueI-agree (arith op a b) σ τ h)
-    calmI-agree (divide op a b) σ τ h =
-        rw (calmI-agree a σ τ (AgreeOn-left (inI a) (inI b) h), calmI-agree b σ τ (AgreeOn-right (inI a) (inI b) h), valueI-agree (divide op a b) σ τ h)
-    calmI-agree (negate a) σ τ h = rw (calmI-agree a σ τ h, valueI-agree (negate a) σ τ h)
-    calmI-agree (boolToInt a) σ τ h = calmB-agree a σ τ h
-    calmI-agree (lookup A i) σ τ h = rw (calmI-agree i σ τ h, valueI-agree (lookup A i) σ τ h)
-    calmI-agree (sum s a) σ τ h =
+    pub metWithinI-agree : (e : IExp ⊥) (σ τ : Setting) → AgreeOn (inI e) σ τ → metWithinI ρ Γ α e σ ≡ metWithinI ρ Γ α e τ
+    metWithinI-agree (constant z) σ τ h = refl
+    metWithinI-agree (variable v) σ τ h = refl
+    metWithinI-agree (slot s) σ τ h = rw (h s (eqb-refl s))
+    metWithinI-agree (arith op a b) σ τ h =
+        rw (metWithinI-agree a σ τ (AgreeOn-left (inI a) (inI b) h), metWithinI-agree b σ τ (AgreeOn-right (inI a) (inI b) h), valueI-agree (arith op a b) σ τ h)
+    metWithinI-agree (divide op a b) σ τ h =
+        rw (metWithinI-agree a σ τ (AgreeOn-left (inI a) (inI b) h), metWithinI-agree b σ τ (AgreeOn-right (inI a) (inI b) h), valueI-agree (divide op a b) σ τ h)
+    metWithinI-agree (negate a) σ τ h = rw (metWithinI-agree a σ τ h, valueI-agree (negate a) σ τ h)
+    metWithinI-agree (boolToInt a) σ τ h = metWithinB-agree a σ τ h
+    metWithinI-agree (lookup A i) σ τ h = rw (metWithinI-agree i σ τ h, valueI-agree (lookup A i) σ τ h)
+    metWithinI-agree (sum s a) σ τ h =
         ap₂ _&&_
         (ap (throughout (slotAt Γ s .low) (count (slotAt Γ s)))
-        (fun-ext (λ d. calmI-agree a (put σ s d) (put τ s d) (AgreeOn-put (inI a) s h d))))
-        (ap calmValue (valueI-agree (sum s a) σ τ h))
-    calmI-agree (iref r) σ τ h = absurd r
+        (fun-ext (λ d. metWithinI-agree a (put σ s d) (put τ s d) (AgreeOn-put (inI a) s h d))))
+        (ap valueWithin (valueI-agree (sum s a) σ τ h))
+    metWithinI-agree (iref r) σ τ h = absurd r
 
     -- And over a Boolean expression.
-    pub calmB-agree : (e : BExp ⊥) (σ τ : Setting) → AgreeOn (inB e) σ τ → calmB ρ Γ α e σ ≡ calmB ρ Γ α e τ
-    calmB-agree (truth b) σ τ h = refl
-    calmB-agree (variableB v) σ τ h = refl
-    calmB-agree (lookupB A i) σ τ h = calmI-agree i σ τ h
-    calmB-agree (connect c a b) σ τ h = rw (calmB-agree a σ τ (AgreeOn-left (inB a) (inB b) h), calmB-agree b σ τ (AgreeOn-right (inB a) (inB b) h))
-    calmB-agree (negation a) σ τ h = calmB-agree a σ τ h
-    calmB-agree (compare c a b) σ τ h = rw (calmI-agree a σ τ (AgreeOn-left (inI a) (inI b) h), calmI-agree b σ τ (AgreeOn-right (inI a) (inI b) h))
-    calmB-agree (quantify q s a) σ τ h =
+    pub metWithinB-agree : (e : BExp ⊥) (σ τ : Setting) → AgreeOn (inB e) σ τ → metWithinB ρ Γ α e σ ≡ metWithinB ρ Γ α e τ
+    metWithinB-agree (truth b) σ τ h = refl
+    metWithinB-agree (variableB v) σ τ h = refl
+    metWithinB-agree (lookupB A i) σ τ h = metWithinI-agree i σ τ h
+    metWithinB-agree (connect c a b) σ τ h = rw (metWithinB-agree a σ τ (AgreeOn-left (inB a) (inB b) h), metWithinB-agree b σ τ (AgreeOn-right (inB a) (inB b) h))
+    metWithinB-agree (negation a) σ τ h = metWithinB-agree a σ τ h
+    metWithinB-agree (compare c a b) σ τ h = rw (metWithinI-agree a σ τ (AgreeOn-left (inI a) (inI b) h), metWithinI-agree b σ τ (AgreeOn-right (inI a) (inI b) h))
+    metWithinB-agree (quantify q s a) σ τ h =
         ap (throughout (slotAt Γ s .low) (count (slotAt Γ s)))
-        (fun-ext (λ d. calmB-agree a (put σ s d) (put τ s d) (AgreeOn-put (inB a) s h d)))
-    calmB-agree (bref r) σ τ h = absurd r
+        (fun-ext (λ d. metWithinB-agree a (put σ s d) (put τ s d) (AgreeOn-put (inB a) s h d)))
+    metWithinB-agree (bref r) σ τ h = absurd r

@@ -12,16 +12,16 @@ use mathlib.Core.List.{List, [], _∷_, _++_, map}
 use mathlib.Core.Option.{Option, none, some, bind}
 use lib.IntN.{ℤ, pos, negsuc}
 use Rattle.numbers.specs.Whole as Whole
-use Rattle.language.specs.Syntax.{plus, minus, times, least, quot, Connective, conj, disj, implies, iff, Comparison, equal, unequal, atMost, below, Quantifier, exists, forall, IExp, constant, slot, arith, divide, boolToInt, lookup, sum, BExp, truth, lookupB, connect, negation, compare, quantify, boolean, integer, fixed, ofVariable, Declarations}
+use Rattle.language.specs.Syntax.{plus, minus, times, quot, Connective, conj, disj, implies, iff, Comparison, equal, unequal, atMost, below, Quantifier, exists, forall, IExp, constant, slot, arith, divide, boolToInt, lookup, sum, BExp, truth, lookupB, connect, negation, compare, quantify, boolean, integer, fixed, ofVariable, Declarations}
 use Rattle.language.specs.Readings as Readings
 use Rattle.language.specs.Readings.{Reading, strict, kleene, relational}
 use Rattle.language.specs.Meaning as Meaning
-use Rattle.language.specs.Meaning.{valueI, valueB, calmI}
+use Rattle.language.specs.Meaning.{valueI, valueB, metWithinI}
 
 -- ---- the two evaluators, opened
 
 worthB : Reading → Declarations → BExp ⊥ → Option Bool
-unfolding Whole.eqZ Whole.least Whole.greatest Whole.quotient Whole.remainder Readings.both Readings.arithmetic Readings.part Readings.division Readings.comparison Readings.logic Readings.strictly Readings.kleeneAnd Readings.kleeneOr Readings.opposite Readings.kleenely Readings.connective Readings.closed Readings.over Readings.joins Readings.ofNone Readings.quantified Readings.summed Meaning.put Meaning.noSlot Meaning.noArray Meaning.slotAt Meaning.arrayAt Meaning.count Meaning.isOne Meaning.number Meaning.valueOf Meaning.elementValue Meaning.elementAt valueI bind
+unfolding Whole.eqZ Whole.least Whole.greatest Whole.quotient Whole.remainder Readings.both Readings.arithmetic Readings.part Readings.division Readings.comparison Readings.logic Readings.strictly Readings.kleeneAnd Readings.kleeneOr Readings.opposite Readings.kleenely Readings.connective Readings.atomic Readings.over Readings.joins Readings.ofNone Readings.quantified Readings.summed Meaning.put Meaning.noSlot Meaning.noArray Meaning.slotAt Meaning.arrayAt Meaning.count Meaning.isOne Meaning.number Meaning.valueOf Meaning.elementValue Meaning.elementAt valueI bind
 worthB ρ Γ e = valueB ρ Γ (pos 3 ∷ pos 1 ∷ []) e (λ s. pos 0)
 
 worthI : Reading → Declarations → IExp ⊥ → Option ℤ
@@ -342,9 +342,9 @@ shadows-hold relational = refl
 
 -- ---- number 8: what is met and what is not
 
-calm : Declarations → IExp ⊥ → Bool
-unfolding worthB Whole.withinLimit Meaning.calmValue Meaning.throughout calmI
-calm Γ e = calmI strict Γ [] e (λ s. pos 0)
+within : Declarations → IExp ⊥ → Bool
+unfolding worthB Whole.withinLimit Meaning.valueWithin Meaning.throughout metWithinI
+within Γ e = metWithinI strict Γ [] e (λ s. pos 0)
 
 -- an empty slot and one of four values, 1..4
 abbrev slots-declared : Declarations
@@ -383,6 +383,6 @@ meetings =
     ∷ met (divide quot large (constant (pos 0))) true
     ∷ []
 
-meetings-hold : map (λ r. met (r .expression) (calm slots-declared (r .expression))) meetings ≡ meetings
-unfolding meetings calm
+meetings-hold : map (λ r. met (r .expression) (within slots-declared (r .expression))) meetings ≡ meetings
+unfolding meetings within
 meetings-hold = refl

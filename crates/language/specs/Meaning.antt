@@ -11,7 +11,7 @@ use lib.ListN.{getD, getElem?}
 use lib.Signed.{leZ}
 use Rattle.numbers.specs.Whole.{eqZ, withinLimit}
 use Rattle.language.specs.Syntax.{IExp, constant, variable, slot, arith, divide, negate, boolToInt, lookup, sum, iref, BExp, truth, variableB, lookupB, connect, negation, compare, quantify, bref, integer, Slot, Element, fixed, ofVariable, Array, Declarations}
-use Rattle.language.specs.Readings.{Reading, both, arithmetic, division, comparison, connective, opposite, closed, over, quantified, summed}
+use Rattle.language.specs.Readings.{Reading, both, arithmetic, division, comparison, connective, opposite, atomic, over, quantified, summed}
 
 -- "The assignment is a list of signed 32-bit numbers, one per variable."
 abbrev pub Assignment : Type 0
@@ -82,19 +82,19 @@ module _ (ρ : Reading) (Γ : Declarations) (α : Assignment) where
     pub valueB : BExp ⊥ → Setting → Option Bool
     valueB (truth b) σ = some b
     valueB (variableB v) σ = some (isOne (valueOf α v))
-    valueB (lookupB A i) σ = closed ρ (Option·map isOne (bind (valueI i σ) (elementAt α (arrayAt Γ A))))
+    valueB (lookupB A i) σ = atomic ρ (Option·map isOne (bind (valueI i σ) (elementAt α (arrayAt Γ A))))
     valueB (connect c a b) σ = connective ρ c (valueB a σ) (valueB b σ)
     valueB (negation a) σ = opposite (valueB a σ)
-    valueB (compare c a b) σ = closed ρ (both (λ x y. some (comparison c x y)) (valueI a σ) (valueI b σ))
+    valueB (compare c a b) σ = atomic ρ (both (λ x y. some (comparison c x y)) (valueI a σ) (valueI b σ))
     valueB (quantify q s a) σ = quantified ρ q (slotAt Γ s .low) (count (slotAt Γ s)) (λ d. valueB a (put σ s d))
     valueB (bref r) σ = absurd r
 
 -- ---- number 8 of evaluation: "an integer node met with a value beyond it"
 
 -- an undefined node has no value to test
-unfoldable pub calmValue : Option ℤ → Bool
-calmValue none = true
-calmValue (some z) = withinLimit z
+unfoldable pub valueWithin : Option ℤ → Bool
+valueWithin none = true
+valueWithin (some z) = withinLimit z
 
 -- for all values of a range
 unfoldable pub throughout : ℤ → ℕ → (ℤ → Bool) → Bool
@@ -104,24 +104,24 @@ module _ (ρ : Reading) (Γ : Declarations) (α : Assignment) where
   unfoldable mutual
     -- No integer expression met has a value beyond the limit. Met: the expression itself, its operands whatever the others gave,
     -- a body for each value of its slot.
-    pub calmI : IExp ⊥ → Setting → Bool
-    calmI (constant z) σ = withinLimit z
-    calmI (variable v) σ = withinLimit (valueOf α v)
-    calmI (slot s) σ = withinLimit (σ s)
-    calmI (arith op a b) σ = calmI a σ && calmI b σ && calmValue (valueI ρ Γ α (arith op a b) σ)
-    calmI (divide op a b) σ = calmI a σ && calmI b σ && calmValue (valueI ρ Γ α (divide op a b) σ)
-    calmI (negate a) σ = calmI a σ && calmValue (valueI ρ Γ α (negate a) σ)
-    calmI (boolToInt a) σ = calmB a σ
-    calmI (lookup A i) σ = calmI i σ && calmValue (valueI ρ Γ α (lookup A i) σ)
-    calmI (sum s a) σ = throughout (slotAt Γ s .low) (count (slotAt Γ s)) (λ d. calmI a (put σ s d)) && calmValue (valueI ρ Γ α (sum s a) σ)
-    calmI (iref r) σ = absurd r
+    pub metWithinI : IExp ⊥ → Setting → Bool
+    metWithinI (constant z) σ = withinLimit z
+    metWithinI (variable v) σ = withinLimit (valueOf α v)
+    metWithinI (slot s) σ = withinLimit (σ s)
+    metWithinI (arith op a b) σ = metWithinI a σ && metWithinI b σ && valueWithin (valueI ρ Γ α (arith op a b) σ)
+    metWithinI (divide op a b) σ = metWithinI a σ && metWithinI b σ && valueWithin (valueI ρ Γ α (divide op a b) σ)
+    metWithinI (negate a) σ = metWithinI a σ && valueWithin (valueI ρ Γ α (negate a) σ)
+    metWithinI (boolToInt a) σ = metWithinB a σ
+    metWithinI (lookup A i) σ = metWithinI i σ && valueWithin (valueI ρ Γ α (lookup A i) σ)
+    metWithinI (sum s a) σ = throughout (slotAt Γ s .low) (count (slotAt Γ s)) (λ d. metWithinI a (put σ s d)) && valueWithin (valueI ρ Γ α (sum s a) σ)
+    metWithinI (iref r) σ = absurd r
 
-    pub calmB : BExp ⊥ → Setting → Bool
-    calmB (truth b) σ = true
-    calmB (variableB v) σ = true
-    calmB (lookupB A i) σ = calmI i σ
-    calmB (connect c a b) σ = calmB a σ && calmB b σ
-    calmB (negation a) σ = calmB a σ
-    calmB (compare c a b) σ = calmI a σ && calmI b σ
-    calmB (quantify q s a) σ = throughout (slotAt Γ s .low) (count (slotAt Γ s)) (λ d. calmB a (put σ s d))
-    calmB (bref r) σ = absurd r
+    pub metWithinB : BExp ⊥ → Setting → Bool
+    metWithinB (truth b) σ = true
+    metWithinB (variableB v) σ = true
+    metWithinB (lookupB A i) σ = metWithinI i σ
+    metWithinB (connect c a b) σ = metWithinB a σ && metWithinB b σ
+    metWithinB (negation a) σ = metWithinB a σ
+    metWithinB (compare c a b) σ = metWithinI a σ && metWithinI b σ
+    metWithinB (quantify q s a) σ = throughout (slotAt Γ s .low) (count (slotAt Γ s)) (λ d. metWithinB a (put σ s d))
+    metWithinB (bref r) σ = absurd r

@@ -1,6 +1,6 @@
 -- The three readings on values alone: what an operation makes of operands that may be undefined (`none`).
 -- "Each value is an integer, a truth value or undefined": an integer node's value is an `Option ℤ`, a Boolean node's an
--- `Option Bool`. The reading is a parameter, and the readings part in two places only: `connective` and `closed`.
+-- `Option Bool`. The reading is a parameter, and the readings part in two places only: `connective` and `atomic`.
 -- Assumes nothing.
 use Prim.Native.Nat.{ℕ, zero, suc}
 use mathlib.Core.Bool.{Bool, true, false, cond, not, _&&_, _||_, Bool·beq}
@@ -9,7 +9,7 @@ use lib.IntN.{ℤ, pos, _+ℤ_, _-ℤ_, _*ℤ_}
 use lib.Signed.{leZ, ltZ}
 use Rattle.numbers.specs.Whole.{eqZ, quotient, remainder}
 use Rattle.numbers.specs.Whole as Whole
-use Rattle.language.specs.Syntax.{Arithmetic, plus, minus, times, least, most, Division, quot, rem, Connective, conj, disj, implies, iff, Comparison, equal, unequal, atMost, below, Quantifier, exists, forall}
+use Rattle.language.specs.Syntax.{Arithmetic, plus, minus, times, minimum, maximum, Division, quot, rem, Connective, conj, disj, implies, iff, Comparison, equal, unequal, atMost, below, Quantifier, exists, forall}
 
 -- "Choice 1 strict, 2 Kleene, 3 relational."
 pub data Reading : Type 0 where
@@ -27,8 +27,8 @@ unfoldable pub arithmetic : Arithmetic → ℤ → ℤ → ℤ
 arithmetic plus a b = a +ℤ b
 arithmetic minus a b = a -ℤ b
 arithmetic times a b = a *ℤ b
-arithmetic least a b = Whole.least a b
-arithmetic most a b = Whole.greatest a b
+arithmetic minimum a b = Whole.least a b
+arithmetic maximum a b = Whole.greatest a b
 
 unfoldable pub part : Division → ℤ → ℤ → ℤ
 part quot a b = quotient a b
@@ -82,7 +82,7 @@ kleenely disj a b = kleeneOr a b
 kleenely implies a b = kleeneOr (opposite a) b
 kleenely iff a b = strictly iff a b
 
--- "Relational: .. everything Boolean above is ordinary logic": no truth value is undefined there (`closed`), and where none is,
+-- "Relational: .. everything Boolean above is ordinary logic": no truth value is undefined there (`atomic`), and where none is,
 -- Kleene's tables are ordinary logic.
 unfoldable pub connective : Reading → Connective → Option Bool → Option Bool → Option Bool
 connective strict c a b = strictly c a b
@@ -91,11 +91,11 @@ connective relational c a b = kleenely c a b
 
 -- The value of a comparison or a Boolean lookup. "Relational: a comparison or Boolean lookup with an undefined operand, or with
 -- its index outside, is false"; under strict and Kleene it is undefined.
-unfoldable pub closed : Reading → Option Bool → Option Bool
-closed strict v = v
-closed kleene v = v
-closed relational none = some false
-closed relational (some b) = some b
+unfoldable pub atomic : Reading → Option Bool → Option Bool
+atomic strict v = v
+atomic kleene v = v
+atomic relational none = some false
+atomic relational (some b) = some b
 
 -- ---- ranges
 

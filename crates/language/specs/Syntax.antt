@@ -10,7 +10,7 @@ use lib.IntN.{ℤ}
 
 -- add, subtract, multiply, min, max
 pub data Arithmetic : Type 0 where
-  plus minus times least most : Arithmetic
+  plus minus times minimum maximum : Arithmetic
 
 -- div, mod: undefined for divisor 0
 pub data Division : Type 0 where

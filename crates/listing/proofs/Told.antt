@@ -5,22 +5,21 @@ use Prim.Native.Nat.{ℕ, zero, suc, _+_, _*_, _≤_, _<_}
 use native.Mathlib.Nat.{mul-div-right, mul-suc, add-zero}
 use native.Mathlib.Omega.{arith}
 use mathlib.Core.Bool.{false}
-use mathlib.Core.List.{List, [], _++_}
-use mathlib.Core.Option.{Option, none, some, orElse}
+use mathlib.Core.List.{List, _++_}
+use mathlib.Core.Option.{Option, none, some}
 use borrow.Author.Tests.{ne-eqb}
 use lib.ListN.{length, length-append}
 use Rattle.numbers.specs.Limits.{mostBytes}
-use Rattle.language.specs.Readings.{Reading}
 use Rattle.table.specs.Records.{recordSize, byteAt}
 use Rattle.table.proofs.Alike.{Alike, Alike-left, kindAt-alike, auxAt-alike, xAt-alike, yAt-alike}
 use Rattle.table.proofs.Marks.{0<recordSize}
-use Rattle.answers.specs.Check.{Refusal, refuse, checkFault}
-use Rattle.answers.specs.Answers.{Answer, Outcome, refused, done, outcome, readingOf, underChoice, boundsFault, roomFault, translation, newCount, translationFault, translateUnder, translate}
-use Rattle.answers.specs.Listing.{lineOf, linesOf, listingUnder, listingOf}
+use Rattle.answers.specs.Check.{Refusal, first, checkFault}
+use Rattle.answers.specs.Answers.{Answer, Outcome, refused, done, outcome, readingChosen, translation, newCount, translateOrder, translationDone, translate}
+use Rattle.answers.specs.Listing.{lineOf, linesOf, listingOf}
 use Rattle.answers.proofs.Faults.{none-orElse}
 use Rattle.answers.proofs.Passed.{checkFault≡none→Passed}
 use Rattle.answers.proofs.NewRecords.{length-translation}
-use Rattle.answers.proofs.Numbers.{upTo, upTo→1≤, Numbered, Numbered-orElse, Numbered-check, Numbered-bounds, Numbered-room}
+use Rattle.answers.proofs.Numbers.{upTo→1≤, translateOrder-numbered}
 use Rattle.lines.specs.Pieces.{refusalText}
 use Rattle.listing.specs.Texts.{textFor, textOf}
 
@@ -43,14 +42,6 @@ linesOf-front xs ys (suc n) h =
     let less : recordSize * n ≤ length xs = omega (arith, rw (mul-suc recordSize n) at h) in
     rw (linesOf-front xs ys n less, lineOf-alike (Alike-left xs ys n h))
 
--- ---- a refusal's number is not 0
-
-translationFault-numbered : (table : List ℕ) (ρ : Reading) (room : ℕ) → Numbered (upTo 9) (translationFault table ρ room)
-unfolding translationFault
-translationFault-numbered table ρ room =
-    Numbered-orElse (upTo 9) _ _ (Numbered-check (upTo 9) tt tt tt tt tt tt table)
-    (Numbered-orElse (upTo 9) _ _ (Numbered-bounds (upTo 9) table tt) (Numbered-room (upTo 9) table ρ room tt))
-
 -- ---- the text
 
 text-refused : (r : Refusal) (lent : List ℕ) → 0 < r .number → textOf (refused r) lent ≡ refusalText (r .number) (r .at)
@@ -65,24 +56,16 @@ text-done new rest n e = rw (e, mul-div-right n 0<recordSize) (linesOf-front new
 abbrev pub textsOf : Outcome → List ℕ
 textsOf o = textOf (o .answer) (o .lent)
 
-text-under : (table : List ℕ) (ρ : Reading) (lent : List ℕ) → length lent ≡ mostBytes → textsOf (translateUnder table ρ lent) ≡ listingUnder table ρ
-unfolding translateUnder listingUnder outcome translationFault
-text-under table ρ lent e = go (translationFault table ρ mostBytes) refl
-  where
-    go : (f : Option Refusal) → translationFault table ρ mostBytes ≡ f → textsOf (translateUnder table ρ lent) ≡ listingUnder table ρ
-    go none h =
-        let passed = checkFault≡none→Passed table (none-orElse (checkFault table) (orElse (boundsFault table) (roomFault table ρ mostBytes)) h .0) in
-        rw (translateUnder, listingUnder, e, h) (text-done (translation table ρ) _ (newCount table ρ) (length-translation table ρ passed))
-    go (some r) h = rw (translateUnder, listingUnder, e, h) (text-refused r lent (upTo→1≤ 9 {n = r .number} (rw h at (translationFault-numbered table ρ mostBytes))))
-
 -- The text for what a translation into 60,000 bytes gives is the listing.
 pub text-listed : (choice : ℕ) (table lent : List ℕ) → length lent ≡ mostBytes → textsOf (translate choice table lent) ≡ listingOf choice table
-unfolding translate underChoice listingOf outcome
-text-listed choice table lent e = go (readingOf choice) refl
+unfolding translate translationDone listingOf outcome translateOrder first
+text-listed choice table lent e = go (first (translateOrder choice table mostBytes)) refl
   where
-    go : (o : Option Reading) → readingOf choice ≡ o → textsOf (translate choice table lent) ≡ listingOf choice table
-    go none h = rw (translate, underChoice, listingOf, h) (text-refused (record { number = 7; at = 0 }) lent (omega arith))
-    go (some ρ) h = rw (translate, underChoice, listingOf, h) (text-under table ρ lent e)
+    go : (f : Option Refusal) → first (translateOrder choice table mostBytes) ≡ f → textsOf (translate choice table lent) ≡ listingOf choice table
+    go none h =
+        let passed = checkFault≡none→Passed table (none-orElse (checkFault table) _ (none-orElse _ _ h .1) .0) in
+        rw (translate, listingOf, e, h) (text-done (translation table (readingChosen choice)) _ (newCount table (readingChosen choice)) (length-translation table (readingChosen choice) passed))
+    go (some r) h = rw (translate, listingOf, e, h) (text-refused r lent (upTo→1≤ 9 {n = r .number} (rw h at (translateOrder-numbered choice table mostBytes))))
 
 -- ---- the length
 
@@ -96,12 +79,8 @@ outcome-within none new lent = simp length-append (omega arith)
 outcome-within (some r) new lent = omega arith
 
 pub translate-within : (choice : ℕ) (table lent : List ℕ) → Within (translate choice table lent)
-unfolding translate underChoice translateUnder
-translate-within choice table lent = go (readingOf choice) refl
-  where
-    go : (o : Option Reading) → readingOf choice ≡ o → Within (translate choice table lent)
-    go none h = rw (translate, underChoice, h) (outcome-within (refuse 7 0) [] lent)
-    go (some ρ) h = rw (translate, underChoice, h) (outcome-within (translationFault table ρ (length lent)) (translation table ρ) lent)
+unfolding translate translationDone
+translate-within choice table lent = outcome-within _ (translation table (readingChosen choice)) lent
 
 -- ---- the answer of the code
 

@@ -17,14 +17,14 @@ use Rattle.table.specs.Records.{recordSize, wordAt, kindAt, auxAt, xAt, yAt, si
 use Rattle.table.proofs.Signs.{signed-low}
 use Rattle.kinds.specs.Entries.{tag}
 use Rattle.answers.specs.Sections.{slotCount, nodeCount, nodeTrees}
-use Rattle.answers.specs.Check.{unless, isZero, names, sameSort, nodeSort, closedIn, constraintFault}
+use Rattle.answers.specs.Check.{unless, isZero, names, sameSort, nodeSort, noFreeSlot, constraintFault}
 use Rattle.answers.proofs.SignedWords.{zero-word, names-word}
 use Rattle.nodes.specs.Known.{has, ConstraintAt}
 use Rattle.nodes.proofs.SlotSets.{clear-more}
 
 -- no slot of the first n is free: none of the first n bits is set
-closed-by-bits : (bs : List ℕ) (k m n : ℕ) → ((t : ℕ) → t < n → has t m ≡ freeIn t (treeAt (nodeTrees bs) k)) → eqb (m % 2 ^ n) 0 ≡ closedIn bs k n
-unfolding closedIn
+closed-by-bits : (bs : List ℕ) (k m n : ℕ) → ((t : ℕ) → t < n → has t m ≡ freeIn t (treeAt (nodeTrees bs) k)) → eqb (m % 2 ^ n) 0 ≡ noFreeSlot bs k n
+unfolding noFreeSlot
 closed-by-bits bs k m zero same = eq-eqb (m % 1) 0 (omega arith)
 closed-by-bits bs k m (suc n) same = clear-more m n ∙ rw (closed-by-bits bs k m n (λ t h. same t (omega arith)), same n (omega arith))
 
@@ -63,7 +63,7 @@ module _ (bs : List ℕ) (p : ℕ) {nodes all : ℕ} {facts : List ℕ} (at : Co
       type-test : sameSort (nodeSort bs (xAt bs p)) boolean ≡ eqb (getD facts (339 + x) 0 % 2) 0
       type-test = rw (x-low, fact-sort) (boolean-tag (nodeSort bs (pos x)))
 
-      closed-test : closedIn bs (natAbs (xAt bs p)) (slotCount bs) ≡ eqb (bitAnd (getD facts (339 + x) 0 / 2) all) 0
+      closed-test : noFreeSlot bs (natAbs (xAt bs p)) (slotCount bs) ≡ eqb (bitAnd (getD facts (339 + x) 0 / 2) all) 0
       closed-test =
           rw x-low
           (sym

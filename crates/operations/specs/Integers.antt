@@ -8,7 +8,7 @@ use Rattle.language.specs.Readings.{both}
 use Rattle.language.specs.Meaning.{number}
 use Rattle.operations.specs.declared.values.Walked.{Walked}
 use Rattle.operations.specs.declared.integers.Arithmetic.{Arithmetic}
-use Rattle.operations.specs.declared.integers.Arithmetic.the-variants.{Plus, Minus, Times, Least, Most}
+use Rattle.operations.specs.declared.integers.Arithmetic.the-variants.{Plus, Minus, Times, Minimum, Maximum}
 use Rattle.operations.specs.declared.integers.Division.{Division}
 use Rattle.operations.specs.declared.integers.Division.the-variants.{Quotient, Remainder}
 use Rattle.operations.specs.declared.integers.Operands.{Operands}
@@ -19,14 +19,14 @@ abbrev pub arithmeticOf : Arithmetic → syntax.Arithmetic
 arithmeticOf Plus = syntax.plus
 arithmeticOf Minus = syntax.minus
 arithmeticOf Times = syntax.times
-arithmeticOf Least = syntax.least
-arithmeticOf Most = syntax.most
+arithmeticOf Minimum = syntax.minimum
+arithmeticOf Maximum = syntax.maximum
 
 abbrev pub divisionOf : Division → syntax.Division
 divisionOf Quotient = syntax.quot
 divisionOf Remainder = syntax.rem
 
--- two integers, or the calm of two operands of which one is undefined
+-- two integers, or whether two operands of which one is undefined stay within the limit
 abbrev pub pairOf : Bool → Option ℤ → Option ℤ → Operands
 pairOf true (some x) (some y) = Both x y
 pairOf true (some x) none = Missing true
@@ -34,17 +34,17 @@ pairOf true none y = Missing true
 pairOf false x y = Missing false
 
 unfoldable pub operandsOf : Walked → Walked → Operands
-operandsOf a b = pairOf (a .calm && b .calm) (integerOf (a .value)) (integerOf (b .value))
+operandsOf a b = pairOf (a .within && b .within) (integerOf (a .value)) (integerOf (b .value))
 
 -- "an integer operation is undefined if an operand is"
 unfoldable pub integers : (ℤ → ℤ → Option ℤ) → Walked → Walked → Walked
-integers f a b = limitedTo (a .calm && b .calm) (both f (integerOf (a .value)) (integerOf (b .value)))
+integers f a b = limitedTo (a .within && b .within) (both f (integerOf (a .value)) (integerOf (b .value)))
 
 unfoldable pub negated : Walked → Walked
-negated a = limitedTo (a .calm) (Option·map negℤ (integerOf (a .value)))
+negated a = limitedTo (a .within) (Option·map negℤ (integerOf (a .value)))
 
 unfoldable pub numbered : Walked → Walked
-numbered a = limitedTo (a .calm) (Option·map number (truthOf (a .value)))
+numbered a = limitedTo (a .within) (Option·map number (truthOf (a .value)))
 
 -- a number with its sign turned where `by` is below zero
 abbrev pub turnedBy : ℤ → ℤ → ℤ

@@ -10,13 +10,13 @@ use Rattle.operations.specs.Values.{integerOf}
 
 -- a sum so far as the code has it
 abbrev pub totalOf : Bool → Option ℤ → Total
-totalOf true (some z) = record { sum = z; defined = true; calm = true }
-totalOf true none = record { sum = pos 0; defined = false; calm = true }
-totalOf false v = record { sum = pos 0; defined = false; calm = false }
+totalOf true (some z) = record { sum = z; defined = true; within = true }
+totalOf true none = record { sum = pos 0; defined = false; within = true }
+totalOf false v = record { sum = pos 0; defined = false; within = false }
 
 abbrev pub totalValue : Total → Option ℤ
 totalValue t = cond (t .defined) (some (t .sum)) none
 
 -- one addend more
 unfoldable pub plusTo : Total → Walked → Total
-plusTo t a = totalOf (t .calm && a .calm) (both (λ x y. some (x +ℤ y)) (totalValue t) (integerOf (a .value)))
+plusTo t a = totalOf (t .within && a .within) (both (λ x y. some (x +ℤ y)) (totalValue t) (integerOf (a .value)))

@@ -5,7 +5,7 @@ use mathlib.Core.Bool.{Bool, true, false, cond, _&&_}
 use mathlib.Core.Option.{Option, none, some}
 use lib.Dec.{eqb}
 use Rattle.language.specs.Syntax as syntax
-use Rattle.language.specs.Readings.{both, comparison, connective, closed, opposite}
+use Rattle.language.specs.Readings.{both, comparison, connective, atomic, opposite}
 use Rattle.language.specs.Readings as readings
 use Rattle.operations.specs.declared.values.Walked.{Walked}
 use Rattle.operations.specs.declared.truths.Comparison.{Comparison}
@@ -38,10 +38,10 @@ levelled l = cond (eqb l 0) (some false) (cond (eqb l 2) (some true) none)
 
 unfoldable pub compared : readings.Reading → syntax.Comparison → Walked → Walked → Walked
 compared ρ c a b =
-    truthTo (a .calm && b .calm) (closed ρ (both (λ x y. some (comparison c x y)) (integerOf (a .value)) (integerOf (b .value))))
+    truthTo (a .within && b .within) (atomic ρ (both (λ x y. some (comparison c x y)) (integerOf (a .value)) (integerOf (b .value))))
 
 unfoldable pub connected : readings.Reading → syntax.Connective → Walked → Walked → Walked
-connected ρ c a b = truthTo (a .calm && b .calm) (connective ρ c (truthOf (a .value)) (truthOf (b .value)))
+connected ρ c a b = truthTo (a .within && b .within) (connective ρ c (truthOf (a .value)) (truthOf (b .value)))
 
 unfoldable pub opposed : Walked → Walked
-opposed a = truthTo (a .calm) (opposite (truthOf (a .value)))
+opposed a = truthTo (a .within) (opposite (truthOf (a .value)))

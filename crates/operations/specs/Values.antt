@@ -4,7 +4,7 @@
 use mathlib.Core.Bool.{Bool, true, false, _&&_}
 use mathlib.Core.Option.{Option, none, some}
 use lib.IntN.{ℤ}
-use Rattle.language.specs.Meaning.{calmValue}
+use Rattle.language.specs.Meaning.{valueWithin}
 use Rattle.operations.specs.declared.values.Value.{Value}
 use Rattle.operations.specs.declared.values.Value.the-variants.{Integer, Truth, Undefined}
 use Rattle.operations.specs.declared.values.Walked.{Walked}
@@ -29,15 +29,15 @@ truthOf (Integer z) = none
 truthOf (Truth b) = some b
 truthOf Undefined = none
 
--- the value of a calm walk
-abbrev pub ofCalm : Bool → Value → Walked
-ofCalm true v = record { value = v; calm = true }
-ofCalm false v = record { value = Undefined; calm = false }
+-- the value of a walk that stayed within the limit, or else none
+abbrev pub ofWalk : Bool → Value → Walked
+ofWalk true v = record { value = v; within = true }
+ofWalk false v = record { value = Undefined; within = false }
 
--- an integer node's value: the walk is calm where it was so below and the value is within the limit
+-- an integer node's value: the walk stays within the limit where it did so below and the value does
 unfoldable pub limitedTo : Bool → Option ℤ → Walked
-limitedTo c v = ofCalm (c && calmValue v) (ofInteger v)
+limitedTo c v = ofWalk (c && valueWithin v) (ofInteger v)
 
 -- a Boolean node's value
 unfoldable pub truthTo : Bool → Option Bool → Walked
-truthTo c v = ofCalm c (ofTruth v)
+truthTo c v = ofWalk c (ofTruth v)

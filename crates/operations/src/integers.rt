@@ -16,8 +16,8 @@ pub enum Arithmetic {
     Plus,
     Minus,
     Times,
-    Least,
-    Most,
+    Minimum,
+    Maximum,
 }
 
 pub enum Division {
@@ -25,7 +25,7 @@ pub enum Division {
     Remainder,
 }
 
-// Two integers, or the calm of two operands of which one is undefined.
+// Two integers, or whether two operands of which one is undefined stay within the limit.
 pub enum Operands {
     Both(i32, i32),
     Missing(bool),
@@ -36,7 +36,7 @@ pub fn integers_of(a: Walked, b: Walked) -> Operands
 {
     let x = a.value;
     let y = b.value;
-    if a.calm && b.calm {
+    if a.within && b.within {
         match x {
             Value::Integer(i) => match y {
                 Value::Integer(j) => Operands::Both(i, j),
@@ -59,8 +59,8 @@ fn combined(op: Arithmetic, x: i32, y: i32) -> i64
         Arithmetic::Plus => x as i64 + y as i64,
         Arithmetic::Minus => x as i64 - y as i64,
         Arithmetic::Times => x as i64 * y as i64,
-        Arithmetic::Least => if x <= y { x as i64 } else { y as i64 },
-        Arithmetic::Most => if x <= y { y as i64 } else { x as i64 },
+        Arithmetic::Minimum => if x <= y { x as i64 } else { y as i64 },
+        Arithmetic::Maximum => if x <= y { y as i64 } else { x as i64 },
     }
 }
 
@@ -69,7 +69,7 @@ pub fn calculate(op: Arithmetic, a: Walked, b: Walked) -> Walked
 {
     match integers_of(a, b) {
         Operands::Both(x, y) => limited(true, combined(op, x, y)),
-        Operands::Missing(calm) => undefined(calm),
+        Operands::Missing(within) => undefined(within),
     }
 }
 
@@ -128,7 +128,7 @@ pub fn divide(op: Division, a: Walked, b: Walked) -> Walked
         } else {
             limited(true, part(op, x, y))
         },
-        Operands::Missing(calm) => undefined(calm),
+        Operands::Missing(within) => undefined(within),
     }
 }
 
@@ -137,9 +137,9 @@ pub fn negate(a: Walked) -> Walked
 {
     let v = a.value;
     match v {
-        Value::Integer(x) => limited(a.calm, 0 - x as i64),
-        Value::Truth(_) => undefined(a.calm),
-        Value::Undefined => undefined(a.calm),
+        Value::Integer(x) => limited(a.within, 0 - x as i64),
+        Value::Truth(_) => undefined(a.within),
+        Value::Undefined => undefined(a.within),
     }
 }
 
@@ -149,12 +149,12 @@ pub fn number(a: Walked) -> Walked
 {
     let v = a.value;
     match v {
-        Value::Integer(_) => undefined(a.calm),
+        Value::Integer(_) => undefined(a.within),
         Value::Truth(b) => if b {
-            limited(a.calm, 1)
+            limited(a.within, 1)
         } else {
-            limited(a.calm, 0)
+            limited(a.within, 0)
         },
-        Value::Undefined => undefined(a.calm),
+        Value::Undefined => undefined(a.within),
     }
 }

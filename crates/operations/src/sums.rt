@@ -15,7 +15,7 @@ use crate::values::undefined;
 pub struct Total {
     pub sum: i64,
     pub defined: bool,
-    pub calm: bool,
+    pub within: bool,
 }
 
 pub fn nothing() -> Total
@@ -24,7 +24,7 @@ pub fn nothing() -> Total
     Total {
         sum: 0,
         defined: true,
-        calm: true,
+        within: true,
     }
 }
 
@@ -33,7 +33,7 @@ pub fn added(total: Total, a: Walked) -> Total
     ensures { λ r. ⌜ (r ≡ plusTo total a) × (natAbs (r .sum) ≤ natAbs (total .sum) + 2 ^ 31) ⌝ }
 {
     let v = a.value;
-    if total.calm && a.calm {
+    if total.within && a.within {
         match v {
             Value::Integer(x) => if total.defined {
                 let addend = x as i64;
@@ -41,41 +41,41 @@ pub fn added(total: Total, a: Walked) -> Total
                 Total {
                     sum: sum,
                     defined: true,
-                    calm: true, // whatever the sum so far
+                    within: true, // whatever the sum so far
                 }
             } else {
                 Total {
                     sum: 0,
                     defined: false,
-                    calm: true,
+                    within: true,
                 }
             },
             Value::Truth(_) => Total {
                 sum: 0,
                 defined: false,
-                calm: true,
+                within: true,
             },
             Value::Undefined => Total {
                 sum: 0,
                 defined: false,
-                calm: true,
+                within: true,
             },
         }
     } else {
         Total {
             sum: 0,
             defined: false,
-            calm: false,
+            within: false,
         }
     }
 }
 
 pub fn summed(total: Total) -> Walked
-    ensures { λ r. ⌜ r ≡ limitedTo (total .calm) (totalValue total) ⌝ }
+    ensures { λ r. ⌜ r ≡ limitedTo (total .within) (totalValue total) ⌝ }
 {
     if total.defined {
-        limited(total.calm, total.sum)
+        limited(total.within, total.sum)
     } else {
-        undefined(total.calm)
+        undefined(total.within)
     }
 }

@@ -48,21 +48,21 @@ fn level(a: Walked) -> u8
 }
 
 // What a walk gives whose value has that level.
-fn at_level(calm: bool, l: u8) -> Walked
-    ensures { λ r. ⌜ r ≡ truthTo calm (levelled l) ⌝ }
+fn at_level(within: bool, l: u8) -> Walked
+    ensures { λ r. ⌜ r ≡ truthTo within (levelled l) ⌝ }
 {
     if l == FALSE {
-        truth_of(calm, false)
+        truth_of(within, false)
     } else if l == TRUE {
-        truth_of(calm, true)
+        truth_of(within, true)
     } else {
-        undefined(calm)
+        undefined(within)
     }
 }
 
 // The level of a comparison or a Boolean lookup that lacks an operand, or whose index is outside.
 fn open_level(reading: Reading) -> u8
-    ensures { λ r. ⌜ r ≡ levelOf (readings.closed (meant reading) none) ⌝ }
+    ensures { λ r. ⌜ r ≡ levelOf (readings.atomic (meant reading) none) ⌝ }
 {
     match reading {
         Reading::Strict => UNDEFINED,
@@ -87,18 +87,18 @@ pub fn compare(reading: Reading, c: Comparison, a: Walked, b: Walked) -> Walked
 {
     match integers_of(a, b) {
         Operands::Both(x, y) => truth_of(true, holds(c, x, y)),
-        Operands::Missing(calm) => at_level(calm, open_level(reading)),
+        Operands::Missing(within) => at_level(within, open_level(reading)),
     }
 }
 
 // A Boolean lookup whose element was found, or not: 1 is true.
-pub fn element_truth(reading: Reading, calm: bool, element: Value) -> Walked
-    ensures { λ r. ⌜ r ≡ truthTo calm (readings.closed (meant reading) (Option·map isOne (integerOf element))) ⌝ }
+pub fn element_truth(reading: Reading, within: bool, element: Value) -> Walked
+    ensures { λ r. ⌜ r ≡ truthTo within (readings.atomic (meant reading) (Option·map isOne (integerOf element))) ⌝ }
 {
     match element {
-        Value::Integer(x) => truth_of(calm, x == 1),
-        Value::Truth(_) => at_level(calm, open_level(reading)),
-        Value::Undefined => at_level(calm, open_level(reading)),
+        Value::Integer(x) => truth_of(within, x == 1),
+        Value::Truth(_) => at_level(within, open_level(reading)),
+        Value::Undefined => at_level(within, open_level(reading)),
     }
 }
 
@@ -117,7 +117,7 @@ fn opposite(x: u8) -> u8
 pub fn negation(a: Walked) -> Walked
     ensures { λ r. ⌜ r ≡ opposed a ⌝ }
 {
-    at_level(a.calm, opposite(level(a)))
+    at_level(a.within, opposite(level(a)))
 }
 
 fn lesser(x: u8, y: u8) -> u8
@@ -186,8 +186,8 @@ pub fn connect(reading: Reading, c: Connective, a: Walked, b: Walked) -> Walked
     ensures { λ r. ⌜ r ≡ connected (meant reading) (connectiveOf c) a b ⌝ }
 {
     let l = joined_under(reading, c, level(a), level(b));
-    if a.calm {
-        at_level(b.calm, l)
+    if a.within {
+        at_level(b.within, l)
     } else {
         undefined(false)
     }

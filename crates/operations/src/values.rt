@@ -1,7 +1,7 @@
 // What a node gives: its value, and whether the walk stayed within the limit.
 ghost use mathlib.Core.Path.{_≡_};
 ghost use mathlib.Core.Option.{some};
-ghost use Rattle.operations.specs.Values.{ofCalm, integerOf, limitedTo};
+ghost use Rattle.operations.specs.Values.{ofWalk, integerOf, limitedTo};
 
 // "Each value is an integer, a truth value or undefined."
 pub enum Value {
@@ -14,7 +14,7 @@ pub enum Value {
 // Past the limit the value does not matter any more, and is left undefined.
 pub struct Walked {
     pub value: Value,
-    pub calm: bool,
+    pub within: bool,
 }
 
 pub enum Quantifier {
@@ -25,77 +25,77 @@ pub enum Quantifier {
 // What an integer node's value stays within.
 pub const LIMIT: i64 = 2000000000;
 
-// A value that came of a calm walk, or else none.
-pub fn of_calm(calm: bool, value: Value) -> Walked
-    ensures { λ r. ⌜ r ≡ ofCalm calm value ⌝ }
+// The value of a walk that stayed within the limit, or else none.
+pub fn of_walk(within: bool, value: Value) -> Walked
+    ensures { λ r. ⌜ r ≡ ofWalk within value ⌝ }
 {
-    if calm {
+    if within {
         Walked {
             value: value,
-            calm: true,
+            within: true,
         }
     } else {
         Walked {
             value: Value::Undefined,
-            calm: false,
+            within: false,
         }
     }
 }
 
 // The value of an integer node, held to the limit.
-pub fn limited(calm: bool, x: i64) -> Walked
-    ensures { λ r. ⌜ r ≡ limitedTo calm (some x) ⌝ }
+pub fn limited(within: bool, x: i64) -> Walked
+    ensures { λ r. ⌜ r ≡ limitedTo within (some x) ⌝ }
 {
-    if calm {
+    if within {
         if -LIMIT <= x {
             if x <= LIMIT {
                 return Walked {
                     value: Value::Integer(x as i32),
-                    calm: true,
+                    within: true,
                 };
             }
         }
     }
     Walked {
         value: Value::Undefined,
-        calm: false,
+        within: false,
     }
 }
 
 // A value already in hand, held to the limit.
-pub fn limited_value(calm: bool, value: Value) -> Walked
-    ensures { λ r. ⌜ r ≡ limitedTo calm (integerOf value) ⌝ }
+pub fn limited_value(within: bool, value: Value) -> Walked
+    ensures { λ r. ⌜ r ≡ limitedTo within (integerOf value) ⌝ }
 {
     match value {
-        Value::Integer(x) => limited(calm, x as i64),
-        Value::Truth(_) => of_calm(calm, Value::Undefined),
-        Value::Undefined => of_calm(calm, Value::Undefined),
+        Value::Integer(x) => limited(within, x as i64),
+        Value::Truth(_) => of_walk(within, Value::Undefined),
+        Value::Undefined => of_walk(within, Value::Undefined),
     }
 }
 
 // No value.
-pub fn undefined(calm: bool) -> Walked
-    ensures { λ r. ⌜ r ≡ ofCalm calm Value.Undefined ⌝ }
+pub fn undefined(within: bool) -> Walked
+    ensures { λ r. ⌜ r ≡ ofWalk within Value.Undefined ⌝ }
 {
     Walked {
         value: Value::Undefined,
-        calm: calm,
+        within: within,
     }
 }
 
-// A truth value that came of a calm walk.
-pub fn truth_of(calm: bool, b: bool) -> Walked
-    ensures { λ r. ⌜ r ≡ ofCalm calm (Value.Truth b) ⌝ }
+// The truth value of a walk that stayed within the limit, or else none.
+pub fn truth_of(within: bool, b: bool) -> Walked
+    ensures { λ r. ⌜ r ≡ ofWalk within (Value.Truth b) ⌝ }
 {
-    if calm {
+    if within {
         Walked {
             value: Value::Truth(b),
-            calm: true,
+            within: true,
         }
     } else {
         Walked {
             value: Value::Undefined,
-            calm: false,
+            within: false,
         }
     }
 }

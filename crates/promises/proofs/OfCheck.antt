@@ -19,7 +19,8 @@ use Rattle.checker.proofs.check.Kinds as Kinds
 use Rattle.checker.proofs.check.Met.{met}
 use Rattle.checker.proofs.check.Reads.{Asked, Learnt}
 use Rattle.checker.proofs.check.Statement.{statement}
-use Rattle.demands.specs.Demands.{Checks, checkOrder, Answered}
+use Rattle.answers.specs.Check.{checkOrder}
+use Rattle.demands.specs.Demands.{Checks, Answered}
 use Rattle.demands.proofs.Demands.{demand-1}
 
 -- The case of each answer.

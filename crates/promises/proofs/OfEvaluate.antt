@@ -15,7 +15,7 @@ use denote.Ref.{now}
 use denote.Triple.Clauses.{AtExit}
 use Rattle.language.specs.Meaning.{Assignment}
 use Rattle.answers.specs.Sections.{constraints}
-use Rattle.answers.specs.Answers.{Answer, Outcome, done, refused}
+use Rattle.answers.specs.Answers.{Answer, Outcome, done, refused, evaluateOrder, readingChosen}
 use Rattle.verdict.specs.declared.Check.the-variants.{Sound, BadLength, Misplaced, NotAllowed, NamesNothing, WrongType, OpenConstraint}
 use Rattle.verdict.specs.Results as Verdict
 use Rattle.evaluation.specs.Results.{answerOf, outcomeOf}
@@ -25,7 +25,7 @@ use Rattle.evaluation.proofs.evaluate.Kinds as Kinds
 use Rattle.evaluation.proofs.evaluate.Met.{met}
 use Rattle.evaluation.proofs.evaluate.Reads.{Asked, Learnt}
 use Rattle.evaluation.proofs.evaluate.Statement.{statement}
-use Rattle.demands.specs.Demands.{Evaluates, evaluateOrder, chosen, AnsweredWith, Evaluated}
+use Rattle.demands.specs.Demands.{Evaluates, AnsweredWith, Evaluated}
 use Rattle.demands.proofs.Demands.{demand-1, demand-2}
 use Rattle.promises.proofs.OfCheck.{checkOf}
 
@@ -107,7 +107,7 @@ module _ (κs : Lfts 3) (args : Dens κs Kinds.ps) where
     answered = demand-1 .evaluate choice table assignment budget lent given h
 
     -- Demand 2.
-    pub evaluated : answerOf r .number ≡ 0 → Evaluated table (chosen choice) assignment lent given
+    pub evaluated : answerOf r .number ≡ 0 → Evaluated table (readingChosen choice) assignment lent given
     evaluated z = demand-2 .evaluate choice table assignment budget lent given h z
 
   -- Any two results are equal, and so are the lent bytes after them.

@@ -12,7 +12,7 @@ use denote.Ref.{now}
 use denote.Triple.Clauses.{AtExit}
 use Rattle.language.specs.Meaning.{Assignment}
 use Rattle.answers.specs.Answers as Answers
-use Rattle.answers.specs.Answers.{Outcome}
+use Rattle.answers.specs.Answers.{Outcome, evaluateOrder, translateOrder, readingChosen}
 use Rattle.barfigol.specs.Results.{answerOf, outcomeOf}
 use Rattle.barfigol.specs.declared.Answer.{Answer}
 use Rattle.barfigol.proofs.barfigol_check.Kinds as check-kinds
@@ -27,7 +27,8 @@ use Rattle.barfigol.proofs.barfigol_translate.Kinds as translate-kinds
 use Rattle.barfigol.proofs.barfigol_translate.Met as translate-met
 use Rattle.barfigol.proofs.barfigol_translate.Reads as translate-reads
 use Rattle.barfigol.proofs.barfigol_translate.Statement as translate-stated
-use Rattle.demands.specs.Demands.{Checks, Evaluates, Translates, checkOrder, evaluateOrder, translateOrder, chosen, Answered, AnsweredWith, Evaluated, written, Written, TotalTable}
+use Rattle.answers.specs.Check.{checkOrder}
+use Rattle.demands.specs.Demands.{Checks, Evaluates, Translates, Answered, AnsweredWith, Evaluated, written, WrittenByRules, TotalTable}
 use Rattle.demands.proofs.Demands.{demand-1, demand-2, demand-3}
 
 -- the struct of each answer
@@ -94,7 +95,7 @@ module _ (κs : Lfts 3) (args : Dens κs evaluate-kinds.ps) where
     pub evaluate-answered : AnsweredWith 11 (evaluateOrder evaluate-choice evaluate-table assignment budget (length verdicts)) verdicts evaluate-given
     evaluate-answered = demand-1 .evaluate evaluate-choice evaluate-table assignment budget verdicts evaluate-given h
 
-    pub evaluate-evaluated : answerOf r .number ≡ 0 → Evaluated evaluate-table (chosen evaluate-choice) assignment verdicts evaluate-given
+    pub evaluate-evaluated : answerOf r .number ≡ 0 → Evaluated evaluate-table (readingChosen evaluate-choice) assignment verdicts evaluate-given
     evaluate-evaluated z = demand-2 .evaluate evaluate-choice evaluate-table assignment budget verdicts evaluate-given h z
 
   pub evaluate-one-result : (r q : Answer) (after later : EvaluateEnd) → evaluate-reads.Learnt κs args r after → evaluate-reads.Learnt κs args q later
@@ -136,10 +137,10 @@ module _ (κs : Lfts 2) (args : Dens κs translate-kinds.ps) where
     pub translate-answered : AnsweredWith 9 (translateOrder translate-choice translate-table (length buffer)) buffer translate-given
     translate-answered = demand-1 .translate translate-choice translate-table buffer translate-given h
 
-    pub translate-by-the-rules : answerOf r .number ≡ 0 → Written translate-table (chosen translate-choice) buffer translate-given
+    pub translate-by-the-rules : answerOf r .number ≡ 0 → WrittenByRules translate-table (readingChosen translate-choice) buffer translate-given
     translate-by-the-rules z = demand-2 .translate translate-choice translate-table buffer translate-given h z
 
-    pub translate-total : answerOf r .number ≡ 0 → TotalTable translate-table (chosen translate-choice) (written translate-given)
+    pub translate-total : answerOf r .number ≡ 0 → TotalTable translate-table (readingChosen translate-choice) (written translate-given)
     translate-total z = demand-3 .translate translate-choice translate-table buffer translate-given h z
 
   pub translate-one-result : (r q : Answer) (after later : TranslateEnd) → translate-reads.Learnt κs args r after → translate-reads.Learnt κs args q later

@@ -15,7 +15,7 @@ use denote.Ref.{now}
 use denote.Triple.Clauses.{AtExit}
 use Rattle.language.specs.Readings.{Reading}
 use Rattle.table.specs.Records.{recordBytes}
-use Rattle.answers.specs.Answers.{Answer, Outcome, done, refused, translation}
+use Rattle.answers.specs.Answers.{Answer, Outcome, done, refused, translation, translateOrder, readingChosen}
 use Rattle.verdict.specs.declared.Check.the-variants.{Sound, BadLength, Misplaced, NotAllowed, NamesNothing, WrongType, OpenConstraint}
 use Rattle.verdict.specs.Results as Verdict
 use Rattle.translation.specs.Results.{answerOf, outcomeOf}
@@ -25,7 +25,7 @@ use Rattle.translation.proofs.translate.Kinds as Kinds
 use Rattle.translation.proofs.translate.Met.{met}
 use Rattle.translation.proofs.translate.Reads.{Asked, Learnt}
 use Rattle.translation.proofs.translate.Statement.{statement}
-use Rattle.demands.specs.Demands.{Translates, translateOrder, chosen, AnsweredWith, written, Written, TotalTable}
+use Rattle.demands.specs.Demands.{Translates, AnsweredWith, written, WrittenByRules, TotalTable}
 use Rattle.demands.proofs.Demands.{demand-1, demand-2, demand-3}
 use Rattle.promises.proofs.OfCheck.{checkOf}
 
@@ -59,9 +59,9 @@ translation-long table ρ = omega arith
 done-long : (choice : ℕ) (table lent : List ℕ) (o : Outcome) → Translates choice table lent o → o .answer .number ≡ 0 → 0 < o .answer .length-written
 unfolding written
 done-long choice table lent o p z =
-    go (o .answer .length-written) (ap length (demand-2 .translate choice table lent o p z .by-the-rules)) (translation-long table (chosen choice))
+    go (o .answer .length-written) (ap length (demand-2 .translate choice table lent o p z .by-the-rules)) (translation-long table (readingChosen choice))
   where
-    go : (n : ℕ) → length (take n (o .lent)) ≡ length (translation table (chosen choice)) → 0 < length (translation table (chosen choice)) → 0 < n
+    go : (n : ℕ) → length (take n (o .lent)) ≡ length (translation table (readingChosen choice)) → 0 < length (translation table (readingChosen choice)) → 0 < n
     go zero e l = omega (arith, e, l)
     go (suc n) e l = omega arith
 
@@ -103,11 +103,11 @@ module _ (κs : Lfts 2) (args : Dens κs Kinds.ps) where
 
     module _ (z : answerOf r .number ≡ 0) where
       -- Demand 2.
-      pub by-the-rules : Written table (chosen choice) lent given
+      pub by-the-rules : WrittenByRules table (readingChosen choice) lent given
       by-the-rules = demand-2 .translate choice table lent given h z
 
       -- Demand 3, of the function's own output bytes.
-      pub total : TotalTable table (chosen choice) (written given)
+      pub total : TotalTable table (readingChosen choice) (written given)
       total = demand-3 .translate choice table lent given h z
 
   -- Any two results are equal, and so are the lent bytes after them.

@@ -12,6 +12,6 @@ meant Strict = Language.strict
 meant Kleene = Language.kleene
 meant Relational = Language.relational
 
-abbrev pub chosen : Choice → Option Language.Reading
-chosen (Under reading) = some (meant reading)
-chosen Nothing = none
+abbrev pub meantBy : Choice → Option Language.Reading
+meantBy (Under reading) = some (meant reading)
+meantBy Nothing = none

@@ -1,7 +1,7 @@
 // How undefined terms are read, and the choice by which a caller asks for a reading.
 ghost use mathlib.Core.Path.{_≡_};
 ghost use Rattle.answers.specs.Answers.{readingOf};
-ghost use Rattle.reading.specs.Readings.{chosen};
+ghost use Rattle.reading.specs.Readings.{meantBy};
 
 // The three readings of Frisch and Stuckey.
 pub enum Reading {
@@ -18,7 +18,7 @@ pub enum Choice {
 
 // "Choice 1 strict, 2 Kleene, 3 relational."
 pub fn reading_of(choice: u32) -> Choice
-    ensures { λ r. ⌜ chosen r ≡ readingOf choice ⌝ }
+    ensures { λ r. ⌜ meantBy r ≡ readingOf choice ⌝ }
 {
     match choice {
         1 => Choice::Under(Reading::Strict),

@@ -11,7 +11,7 @@ use Rattle.language.specs.Readings.{Reading}
 use Rattle.language.specs.Tables.{Tree, whole, bool}
 use Rattle.language.specs.Meaning.{Assignment, Setting, valueI, valueB}
 use Rattle.rules.specs.Bounds.{interval, withinBounds}
-use Rattle.rules.specs.Demand.{defined, isTrue, isFalse}
+use Rattle.rules.specs.TotalRows.{defined, isTrue, isFalse}
 use Rattle.rules.specs.Soundness.{Within, Fits, IsVariable, IsArray, IsSlot}
 use Rattle.rules.proofs.Companions.{Vᵗ, Dᵗ, Pᵗ, Nᵗ}
 

@@ -12,7 +12,7 @@ use Rattle.language.specs.Meaning.{Assignment, Setting, valueB}
 use Rattle.language.proofs.Agreement.{connective-some}
 use Rattle.language.proofs.Finite.{_⊗_, readings, connectives, truths, isSome, isSome→≡}
 use Rattle.rules.specs.Formulas.{behind, settled, connectP, connectN}
-use Rattle.rules.specs.Demand.{defined, isTrue, isFalse}
+use Rattle.rules.specs.TotalRows.{defined, isTrue, isFalse}
 use Rattle.rules.proofs.Claims.{MeansB}
 use Rattle.rules.proofs.Companions.{Pᵗ, Nᵗ}
 use Rattle.rules.proofs.Formulas.{HasB, P-has, N-has}

@@ -8,10 +8,10 @@ use lib.Dec.{T}
 use lib.IntN.{ℤ, pos, negℤ}
 use Rattle.numbers.specs.Whole.{eqZ}
 use Rattle.language.specs.Syntax.{Arithmetic, plus, Division, Connective, disj, Comparison, equal, IExp, constant, arith, divide, negate, boolToInt, BExp, lookup, truth, lookupB, connect, negation, compare, Declarations}
-use Rattle.language.specs.Readings.{Reading, both, arithmetic, part, division, comparison, logic, opposite, closed}
+use Rattle.language.specs.Readings.{Reading, both, arithmetic, part, division, comparison, logic, opposite, atomic}
 use Rattle.language.specs.Meaning.{Assignment, Setting, arrayAt, isOne, number, elementAt, valueI, valueB}
-use Rattle.language.proofs.Agreement.{connective-of, closed-some}
-use Rattle.rules.specs.Demand.{defined, isTrue, isFalse}
+use Rattle.language.proofs.Agreement.{connective-of, atomic-some}
+use Rattle.rules.specs.TotalRows.{defined, isTrue, isFalse}
 use Rattle.rules.proofs.Claims.{MeansI, MeansB}
 use Rattle.rules.proofs.Companions.{Vᵗ, Pᵗ, Dᵗ, Nᵗ}
 use Rattle.rules.proofs.Operands.{corrected, division-some}
@@ -74,7 +74,7 @@ module _ {ρ′ : Reading} {Γ : Declarations} {α : Assignment} {σ : Setting} 
   pub compare-has : (c : Comparison) {a b : IExp ⊥} {x y : ℤ} → HasI ρ′ Γ α σ a x → HasI ρ′ Γ α σ b y → HasB ρ′ Γ α σ (compare c a b) (comparison c x y)
   unfolding valueB both
   compare-has c {x = x} {y = y} p q =
-      record { is = ap₂ (λ v w. closed ρ′ (both (λ x y. some (comparison c x y)) v w)) (p .is) (q .is) ∙ closed-some ρ′ (comparison c x y) }
+      record { is = ap₂ (λ v w. atomic ρ′ (both (λ x y. some (comparison c x y)) v w)) (p .is) (q .is) ∙ atomic-some ρ′ (comparison c x y) }
 
   -- The corrected divisor.
   pub corrected-has : {b : IExp ⊥} {y : ℤ} → HasI ρ′ Γ α σ b y → HasI ρ′ Γ α σ (correctedV b) (corrected y)
@@ -85,7 +85,7 @@ module _ {ρ′ : Reading} {Γ : Declarations} {α : Assignment} {σ : Setting} 
   pub lookupB-has : (A : ℕ) {i : IExp ⊥} {x z : ℤ} → HasI ρ′ Γ α σ i x → elementAt α (arrayAt Γ A) x ≡ some z → HasB ρ′ Γ α σ (lookupB A i) (isOne z)
   unfolding valueB bind
   lookupB-has A {z = z} p e =
-      record { is = ap (λ v. closed ρ′ (Option·map isOne v)) (ap (λ v. bind v (elementAt α (arrayAt Γ A))) (p .is) ∙ e) ∙ closed-some ρ′ (isOne z) }
+      record { is = ap (λ v. atomic ρ′ (Option·map isOne v)) (ap (λ v. bind v (elementAt α (arrayAt Γ A))) (p .is) ∙ e) ∙ atomic-some ρ′ (isOne z) }
 
   -- A connective is ordinary logic in each reading.
   pub connect-has : (c : Connective) {a b : BExp ⊥} {x y : Bool} → HasB ρ′ Γ α σ a x → HasB ρ′ Γ α σ b y → HasB ρ′ Γ α σ (connect c a b) (logic c x y)

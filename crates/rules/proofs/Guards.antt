@@ -7,14 +7,14 @@ use mathlib.Core.Option.{Option, none, some, Option·map, bind}
 use lib.Dec.{T}
 use lib.IntN.{ℤ}
 use lib.ListN.{length}
-use Rattle.language.specs.Syntax.{least, most, conj, Comparison, atMost, IExp, BExp, lookup, lookupB, connect, compare, Declarations}
-use Rattle.language.specs.Readings.{Reading, strict, kleene, relational, both, arithmetic, comparison, logic, closed}
+use Rattle.language.specs.Syntax.{minimum, maximum, conj, Comparison, atMost, IExp, BExp, lookup, lookupB, connect, compare, Declarations}
+use Rattle.language.specs.Readings.{Reading, strict, kleene, relational, both, arithmetic, comparison, logic, atomic}
 use Rattle.language.specs.Meaning.{Assignment, Setting, arrayAt, isOne, elementAt, valueI, valueB}
 use Rattle.rules.specs.Bounds.{elementsInterval, interval}
 use Rattle.rules.specs.Formulas.{inside, clamped, refuted}
 use Rattle.rules.specs.Rules.{last}
 use Rattle.rules.specs.Soundness.{Within, Fits, Declared}
-use Rattle.rules.specs.Demand.{defined, isTrue, isFalse}
+use Rattle.rules.specs.TotalRows.{defined, isTrue, isFalse}
 use Rattle.rules.proofs.Claims.{MeansI, MeansB}
 use Rattle.rules.proofs.Companions.{guardOf, indexOf, Vᵗ, Pᵗ, Dᵗ, Nᵗ}
 use Rattle.rules.proofs.Operands.{Agrees, defined-map, agrees-map, defined-both, agrees-both}
@@ -24,8 +24,8 @@ use Rattle.rules.proofs.Lookups.{clampedTo, first-≤-clamped, clamped-
 -- ---- guard and test
 
 -- The guard says that v is defined and the test is v's value there.
-guarded-true : (ρ : Reading) {b : Bool} (v : Option Bool) → Agrees b v → defined v && b ≡ isTrue (closed ρ v)
-unfolding defined isTrue closed
+guarded-true : (ρ : Reading) {b : Bool} (v : Option Bool) → Agrees b v → defined v && b ≡ isTrue (atomic ρ v)
+unfolding defined isTrue atomic
 guarded-true strict none h = refl
 guarded-true kleene none h = refl
 guarded-true relational none h = refl
@@ -40,31 +40,31 @@ guarded-false none h = refl
 guarded-false (some a) h = ap not (h a refl) ∙ not-isTrue (some a) tt
 
 -- "a comparison or Boolean lookup with an undefined operand .. is false"
-closed-defined : (v : Option Bool) → T (defined (closed relational v))
-unfolding closed defined
-closed-defined none = tt
-closed-defined (some b) = tt
+atomic-defined : (v : Option Bool) → T (defined (atomic relational v))
+unfolding atomic defined
+atomic-defined none = tt
+atomic-defined (some b) = tt
 
 module _ {ρ′ : Reading} {Γ : Declarations} {α : Assignment} {σ : Setting} where
   -- N of a guarded test.
   refuted-has : (ρ : Reading) {g e : BExp ⊥} {b : Bool} (v : Option Bool) → HasB ρ′ Γ α σ g (defined v) → HasB ρ′ Γ α σ e b → Agrees b v →
-      HasB ρ′ Γ α σ (refuted ρ g e (connect conj g e)) (isFalse (closed ρ v))
-  unfolding refuted closed logic
+      HasB ρ′ Γ α σ (refuted ρ g e (connect conj g e)) (isFalse (atomic ρ v))
+  unfolding refuted atomic logic
   refuted-has strict v p q h = has-≡ (connect-has conj p (negation-has q)) (guarded-false v h)
   refuted-has kleene v p q h = has-≡ (connect-has conj p (negation-has q)) (guarded-false v h)
   refuted-has relational v p q h =
-      has-≡ (negation-has (connect-has conj p q)) (ap not (guarded-true relational v h) ∙ not-isTrue (closed relational v) (closed-defined v))
+      has-≡ (negation-has (connect-has conj p q)) (ap not (guarded-true relational v h) ∙ not-isTrue (atomic relational v) (atomic-defined v))
 
 module _ {ρ ρ′ : Reading} {Γ : Declarations} {α : Assignment} {σ : Setting} where
   -- P and N of a node whose rule is guard and test.
   guarded-means : {n : BExp ⊥} {g e : BExp ⊥} {b : Bool} (v : Option Bool) →
-      valueB ρ Γ α n σ ≡ closed ρ v → Pᵗ ρ Γ n ≡ connect conj g e → Nᵗ ρ Γ n ≡ refuted ρ g e (connect conj g e) →
+      valueB ρ Γ α n σ ≡ atomic ρ v → Pᵗ ρ Γ n ≡ connect conj g e → Nᵗ ρ Γ n ≡ refuted ρ g e (connect conj g e) →
       HasB ρ′ Γ α σ g (defined v) → HasB ρ′ Γ α σ e b → Agrees b v → MeansB ρ ρ′ Γ α σ n
   unfolding logic
   guarded-means v n-is P-is N-is g e h = record {
     P-is = rw (P-is, n-is) (has-≡ (connect-has conj g e) (guarded-true ρ v h) .is);
     N-is = rw (N-is, n-is) (refuted-has ρ v g e h .is);
-    relational-defined = λ r. rw (n-is, r) (closed-defined v);
+    relational-defined = λ r. rw (n-is, r) (atomic-defined v);
   }
 
   -- "Comparison: P = (Da ∧ Db) ∧ (Va op Vb), N = (Da ∧ Db) ∧ ¬(Va op Vb); relational N = ¬P."
@@ -91,7 +91,7 @@ module _ {ρ ρ′ : Reading} {Γ : Declarations} {α : Assignment} {σ : Settin
   -- "h = A[max(l, min(u, Vi))]": h's index is the clamped one.
   index-has : HasI ρ′ Γ α σ (indexOf ρ Γ A (Vᵗ ρ Γ i)) (clampedTo (arrayAt Γ A) (m .value))
   unfolding indexOf clamped arithmetic
-  index-has = arith-has most (constant-has (arrayAt Γ A .first)) (arith-has least (constant-has (last (arrayAt Γ A))) (V-has m))
+  index-has = arith-has maximum (constant-has (arrayAt Γ A .first)) (arith-has minimum (constant-has (last (arrayAt Γ A))) (V-has m))
 
   module _ (declared : Declared Γ) (known : A < length (Γ .arrays)) (fits : Fits Γ α σ) where
     -- It finds a number of the array's interval.

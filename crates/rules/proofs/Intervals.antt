@@ -10,7 +10,7 @@ use Rattle.numbers.specs.Whole.{withinLimit}
 use Rattle.numbers.proofs.Tests.{&&-fst, &&-snd}
 use Rattle.numbers.proofs.Order.{≤-trans, +-mono-≤, neg-anti-≤, *-pos-mono-≤, *-negsuc-anti-≤, least-≤ˡ, least-≤ʳ, ≤-greatestˡ, ≤-greatestʳ, least-mono-≤, greatest-mono-≤}
 use Rattle.numbers.proofs.Division.{natAbs-between, withinLimit-between}
-use Rattle.language.specs.Syntax.{Arithmetic, plus, minus, times, least, most, IExp, Slot, Declarations}
+use Rattle.language.specs.Syntax.{Arithmetic, plus, minus, times, minimum, maximum, IExp, Slot, Declarations}
 use Rattle.language.specs.Readings.{arithmetic}
 use Rattle.language.specs.Meaning.{Assignment, Setting, put, slotAt, count}
 use Rattle.language.proofs.Ranges.{put-cases, low-≤-slot-value, slot-value-≤-high}
@@ -77,8 +77,8 @@ unfolding arithInterval arithmetic
 arith-within plus v w = record { above = +-mono-≤ (v .above) (w .above); below = +-mono-≤ (v .below) (w .below) }
 arith-within minus v w = record { above = +-mono-≤ (v .above) (neg-anti-≤ (w .below)); below = +-mono-≤ (v .below) (neg-anti-≤ (w .above)) }
 arith-within times v w = products-within v w
-arith-within least v w = record { above = least-mono-≤ (v .above) (w .above); below = least-mono-≤ (v .below) (w .below) }
-arith-within most v w = record { above = greatest-mono-≤ (v .above) (w .above); below = greatest-mono-≤ (v .below) (w .below) }
+arith-within minimum v w = record { above = least-mono-≤ (v .above) (w .above); below = least-mono-≤ (v .below) (w .below) }
+arith-within maximum v w = record { above = greatest-mono-≤ (v .above) (w .above); below = greatest-mono-≤ (v .below) (w .below) }
 
 -- No number of an interval passes its magnitude.
 pub natAbs-≤-magnitude : {i : Interval} (x : ℤ) → Within i x → natAbs x ≤ magnitude i

@@ -1,10 +1,7 @@
 pub mod Adding
-pub mod Calm
-pub mod CalmCompanions
 pub mod Claims
 pub mod Companions
 pub mod Connectives
-pub mod Demand
 pub mod Every
 pub mod Filling
 pub mod Formulas
@@ -14,6 +11,8 @@ pub mod Intervals
 pub mod Lookups
 pub mod LowEnds
 pub mod Meaning
+pub mod MetWithin
+pub mod MetWithinCompanions
 pub mod Nodes
 pub mod Operands
 pub mod Operations
@@ -23,6 +22,7 @@ pub mod SoundTables
 pub mod Stands
 pub mod Sums
 pub mod Total
+pub mod TotalRows
 pub mod Totality
 pub mod Tracked
 pub mod Translation

@@ -24,7 +24,7 @@ use Rattle.language.specs.Meaning.{Assignment, Setting, noArray, arrayAt, eleme
 use Rattle.rules.specs.Bounds.{Interval, hull, elementInterval, hullWith, elementsInterval}
 use Rattle.rules.specs.Rules.{last}
 use Rattle.rules.specs.Soundness.{Within, Fits, ElementFits, All, ArrayFits, Declared}
-use Rattle.rules.specs.Demand.{defined}
+use Rattle.rules.specs.TotalRows.{defined}
 use Rattle.rules.proofs.Intervals.{within-only, within-hullˡ, within-hullʳ}
 use Rattle.rules.proofs.Operands.{Agrees, defined-map}
 

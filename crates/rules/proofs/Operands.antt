@@ -19,7 +19,7 @@ use Rattle.language.specs.Readings.{both, part, division}
 use Rattle.language.specs.Meaning.{number}
 use Rattle.rules.specs.Bounds.{Interval, magnitude, divideInterval}
 use Rattle.rules.specs.Soundness.{Within}
-use Rattle.rules.specs.Demand.{defined}
+use Rattle.rules.specs.TotalRows.{defined}
 use Rattle.rules.proofs.Intervals.{natAbs-≤-magnitude}
 
 -- x is the value v, if v is defined

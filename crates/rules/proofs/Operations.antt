@@ -14,7 +14,7 @@ use Rattle.language.specs.Meaning.{Assignment, Setting, isOne, number, valueOf,
 use Rattle.rules.specs.Bounds.{_to_, interval}
 use Rattle.rules.specs.Formulas.{divideV, divideD}
 use Rattle.rules.specs.Soundness.{Within, Fits, IsVariable, IsSlot}
-use Rattle.rules.specs.Demand.{defined, isTrue}
+use Rattle.rules.specs.TotalRows.{defined, isTrue}
 use Rattle.rules.proofs.Claims.{MeansI, MeansB}
 use Rattle.rules.proofs.Companions.{Vᵗ, Pᵗ, Dᵗ, Nᵗ}
 use Rattle.rules.proofs.Intervals.{within-only, arith-within}

@@ -14,7 +14,7 @@ use Rattle.language.proofs.Agreement.{connective-of}
 use Rattle.language.proofs.Finite.{_⊗_, bools, quantifiers, readings, truths, beq→≡, implied}
 use Rattle.language.proofs.Ranges.{over-relates}
 use Rattle.rules.specs.Formulas.{behind, quantifyP, quantifyN}
-use Rattle.rules.specs.Demand.{defined, isTrue, isFalse}
+use Rattle.rules.specs.TotalRows.{defined, isTrue, isFalse}
 use Rattle.rules.proofs.Claims.{MeansB}
 use Rattle.rules.proofs.Companions.{Pᵗ, Nᵗ}
 use Rattle.rules.proofs.Formulas.{HasB, has-≡, connect-has, P-has, N-has, P-or-N-has}

@@ -10,7 +10,7 @@ use Rattle.language.specs.Meaning.{Assignment, Setting, put, slotAt, count, val
 use Rattle.language.proofs.Ranges.{over-relates}
 use Rattle.rules.specs.Bounds.{Interval, interval}
 use Rattle.rules.specs.Soundness.{Within}
-use Rattle.rules.specs.Demand.{defined}
+use Rattle.rules.specs.TotalRows.{defined}
 use Rattle.rules.proofs.Claims.{MeansI}
 use Rattle.rules.proofs.Companions.{Vᵗ, Dᵗ}
 use Rattle.rules.proofs.Intervals.{ends, sum-within-zero, sum-within-suc}

@@ -8,7 +8,7 @@ use lib.IntN.{ℤ}
 use lib.ListN.{length}
 use Rattle.numbers.specs.Whole.{withinLimit}
 use Rattle.numbers.proofs.Order.{least-of, greatest-of}
-use Rattle.language.specs.Syntax.{least, most, Connective, conj, disj, implies, iff, unequal, atMost, Quantifier, exists, forall, IExp, constant, variable, slot, arith, divide, negate, boolToInt, BExp, lookup, sum, iref, truth, variableB, lookupB, connect, negation, compare, quantify, bref, Declarations}
+use Rattle.language.specs.Syntax.{minimum, maximum, Connective, conj, disj, implies, iff, unequal, atMost, Quantifier, exists, forall, IExp, constant, variable, slot, arith, divide, negate, boolToInt, BExp, lookup, sum, iref, truth, variableB, lookupB, connect, negation, compare, quantify, bref, Declarations}
 use Rattle.language.specs.Readings.{Reading, strict, kleene, relational, arithmetic}
 use Rattle.language.specs.Meaning.{Assignment, arrayAt}
 use Rattle.rules.specs.Formulas.{divideV, divideD, inside, clamped, refuted, behind, settled, connectP, connectN, quantifyP, quantifyN}
@@ -34,7 +34,7 @@ module _ {Γ : Declarations} {α : Assignment} where
   clamped-each : {l u : ℤ} → EachI Γ α (constant l) → EachI Γ α (constant u) → {v : IExp ⊥} → EachI Γ α v → EachI Γ α (clamped l u v)
   unfolding clamped arithmetic
   clamped-each l u v =
-      arith-each most (λ x y p q. greatest-of x y (λ z. T (withinLimit z)) p q) l (arith-each least (λ x y p q. least-of x y (λ z. T (withinLimit z)) p q) u v)
+      arith-each maximum (λ x y p q. greatest-of x y (λ z. T (withinLimit z)) p q) l (arith-each minimum (λ x y p q. least-of x y (λ z. T (withinLimit z)) p q) u v)
 
   -- N of a guarded test.
   refuted-each : (ρ : Reading) {g e p : BExp ⊥} → EachB Γ α g → EachB Γ α e → EachB Γ α p → EachB Γ α (refuted ρ g e p)

@@ -9,7 +9,7 @@ use Rattle.language.specs.Syntax.{boolean, integer, Declarations}
 use Rattle.language.specs.Readings.{Reading}
 use Rattle.language.specs.Tables.{Row, asI, asB, treeI, treeB, treesAfter, trees}
 use Rattle.language.specs.Meaning.{Assignment}
-use Rattle.rules.specs.Demand.{firstOf, secondOf, newRows}
+use Rattle.rules.specs.TotalRows.{firstOf, secondOf, newRows}
 use Rattle.rules.specs.Soundness.{All, IsNode, WellFormed}
 use Rattle.rules.specs.Writing.{translateRows}
 use Rattle.rules.proofs.Companions.{Vᵗ, Dᵗ, Pᵗ, Nᵗ}

@@ -8,7 +8,7 @@ use mathlib.Core.List.{List, [], _∷_, map}
 use lib.IntN.{ℤ, pos, negsuc}
 use lib.ListN.{getD, length, drop}
 use Rattle.numbers.specs.Whole as Whole
-use Rattle.language.specs.Syntax.{plus, minus, times, least, most, quot, rem, conj, disj, implies, iff, equal, unequal, atMost, below, exists, forall, IExp, constant, variable, slot, arith, divide, negate, boolToInt, lookup, sum, truth, boolean, integer, fixed, ofVariable, Declarations}
+use Rattle.language.specs.Syntax.{plus, minus, times, minimum, maximum, quot, rem, conj, disj, implies, iff, equal, unequal, atMost, below, exists, forall, IExp, constant, variable, slot, arith, divide, negate, boolToInt, lookup, sum, truth, boolean, integer, fixed, ofVariable, Declarations}
 use Rattle.language.specs.Readings.{Reading, strict, kleene, relational}
 use Rattle.language.specs.Tables.{Row, constantRow, variableRow, slotRow, arithRow, divideRow, negateRow, boolToIntRow, lookupRow, sumRow, truthRow, variableBRow, lookupBRow, connectRow, negationRow, compareRow, quantifyRow}
 use Rattle.language.specs.Meaning as Meaning
@@ -102,19 +102,19 @@ rules =
     ∷ constantRow (pos 0) ∷ compareRow unequal 0 10 ∷ connectRow conj 9 11 ∷ [])
     8 12
     ∷ rule every number (lookupRow 0 0)
-    (constantRow (pos 5) ∷ constantRow (pos 7) ∷ arithRow least 3 0 ∷ arithRow most 2 4 ∷ lookupRow 0 5 ∷ constantRow (pos 5)
+    (constantRow (pos 5) ∷ constantRow (pos 7) ∷ arithRow minimum 3 0 ∷ arithRow maximum 2 4 ∷ lookupRow 0 5 ∷ constantRow (pos 5)
     ∷ compareRow atMost 7 0 ∷ connectRow conj 1 8 ∷ constantRow (pos 7) ∷ compareRow atMost 0 10 ∷ connectRow conj 9 11 ∷ [])
     6 12
     ∷ rule three-valued number (lookupBRow 1 0)
     (constantRow (pos 5) ∷ compareRow atMost 2 0 ∷ connectRow conj 1 3 ∷ constantRow (pos 7) ∷ compareRow atMost 0 5
-    ∷ connectRow conj 4 6 ∷ constantRow (pos 5) ∷ constantRow (pos 7) ∷ arithRow least 9 0 ∷ arithRow most 8 10 ∷ lookupBRow 1 11
+    ∷ connectRow conj 4 6 ∷ constantRow (pos 5) ∷ constantRow (pos 7) ∷ arithRow minimum 9 0 ∷ arithRow maximum 8 10 ∷ lookupBRow 1 11
     ∷ connectRow conj 7 12 ∷ constantRow (pos 5) ∷ compareRow atMost 14 0 ∷ connectRow conj 1 15 ∷ constantRow (pos 7)
-    ∷ compareRow atMost 0 17 ∷ connectRow conj 16 18 ∷ constantRow (pos 5) ∷ constantRow (pos 7) ∷ arithRow least 21 0
-    ∷ arithRow most 20 22 ∷ lookupBRow 1 23 ∷ negationRow 24 ∷ connectRow conj 19 25 ∷ [])
+    ∷ compareRow atMost 0 17 ∷ connectRow conj 16 18 ∷ constantRow (pos 5) ∷ constantRow (pos 7) ∷ arithRow minimum 21 0
+    ∷ arithRow maximum 20 22 ∷ lookupBRow 1 23 ∷ negationRow 24 ∷ connectRow conj 19 25 ∷ [])
     13 26
     ∷ rule (relational ∷ []) number (lookupBRow 1 0)
     (constantRow (pos 5) ∷ compareRow atMost 2 0 ∷ connectRow conj 1 3 ∷ constantRow (pos 7) ∷ compareRow atMost 0 5
-    ∷ connectRow conj 4 6 ∷ constantRow (pos 5) ∷ constantRow (pos 7) ∷ arithRow least 9 0 ∷ arithRow most 8 10 ∷ lookupBRow 1 11
+    ∷ connectRow conj 4 6 ∷ constantRow (pos 5) ∷ constantRow (pos 7) ∷ arithRow minimum 9 0 ∷ arithRow maximum 8 10 ∷ lookupBRow 1 11
     ∷ connectRow conj 7 12 ∷ negationRow 13 ∷ [])
     13 14
     ∷ rule every truth-value (boolToIntRow 0) (boolToIntRow 0 ∷ connectRow disj 0 1 ∷ []) 2 3
@@ -213,8 +213,8 @@ bounds =
     ∷ bound (arith times a b) (negsuc 11) (pos 20)
     ∷ bound (arith times a c) (negsuc 29) (pos 18)
     ∷ bound (arith times c c) (pos 4) (pos 36)
-    ∷ bound (arith least a b) (negsuc 2) (pos 4)
-    ∷ bound (arith most a b) (pos 2) (pos 5)
+    ∷ bound (arith minimum a b) (negsuc 2) (pos 4)
+    ∷ bound (arith maximum a b) (pos 2) (pos 5)
     ∷ bound (divide quot c b) (negsuc 5) (pos 6)
     ∷ bound (divide quot b c) (negsuc 3) (pos 4)
     ∷ bound (divide rem a c) (pos 0) (pos 5)

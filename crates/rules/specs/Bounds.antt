@@ -7,7 +7,7 @@ use lib.IntN.{ℤ, pos, negℤ, _+ℤ_, _-ℤ_, _*ℤ_, natAbs}
 use lib.ListN.{getD}
 use Rattle.numbers.specs.Whole as Whole
 use Rattle.numbers.specs.Whole.{withinLimit}
-use Rattle.language.specs.Syntax.{Arithmetic, plus, minus, times, least, most, Division, quot, rem, IExp, constant, variable, slot, arith, divide, negate, boolToInt, lookup, sum, iref, integer, Variable, Slot, Element, fixed, ofVariable, Declarations}
+use Rattle.language.specs.Syntax.{Arithmetic, plus, minus, times, minimum, maximum, Division, quot, rem, IExp, constant, variable, slot, arith, divide, negate, boolToInt, lookup, sum, iref, integer, Variable, Slot, Element, fixed, ofVariable, Declarations}
 use Rattle.language.specs.Tables.{Tree, whole, bool}
 use Rattle.language.specs.Meaning.{slotAt, arrayAt, count}
 
@@ -42,8 +42,8 @@ unfoldable pub arithInterval : Arithmetic → Interval → Interval → Interval
 arithInterval plus i j = i .low +ℤ j .low to i .high +ℤ j .high
 arithInterval minus i j = i .low -ℤ j .high to i .high -ℤ j .low
 arithInterval times i j = products i j
-arithInterval least i j = Whole.least (i .low) (j .low) to Whole.least (i .high) (j .high)
-arithInterval most i j = Whole.greatest (i .low) (j .low) to Whole.greatest (i .high) (j .high)
+arithInterval minimum i j = Whole.least (i .low) (j .low) to Whole.least (i .high) (j .high)
+arithInterval maximum i j = Whole.greatest (i .low) (j .low) to Whole.greatest (i .high) (j .high)
 
 -- "div −M..M with M the largest magnitude of the left operand; mod 0..max(0, m−1) with m the divisor's largest magnitude"
 unfoldable pub divideInterval : Division → Interval → Interval → Interval

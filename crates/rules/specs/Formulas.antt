@@ -3,7 +3,7 @@
 -- Assumes nothing.
 use Prim.Native.Nat.{ℕ}
 use lib.IntN.{ℤ, pos}
-use Rattle.language.specs.Syntax.{plus, least, most, Division, Connective, conj, disj, implies, iff, equal, unequal, atMost, Quantifier, exists, forall, IExp, constant, arith, divide, boolToInt, BExp, connect, negation, compare, quantify}
+use Rattle.language.specs.Syntax.{plus, minimum, maximum, Division, Connective, conj, disj, implies, iff, equal, unequal, atMost, Quantifier, exists, forall, IExp, constant, arith, divide, boolToInt, BExp, connect, negation, compare, quantify}
 use Rattle.language.specs.Readings.{Reading, strict, kleene, relational}
 
 infixl 35 _and_
@@ -27,7 +27,7 @@ module _ {R : Type 0} where
   inside l u Di Vi = (Di and compare atMost (constant l) Vi) and compare atMost Vi (constant u)
 
   unfoldable pub clamped : (l u : ℤ) (Vi : IExp R) → IExp R
-  clamped l u Vi = arith most (constant l) (arith least (constant u) Vi)
+  clamped l u Vi = arith maximum (constant l) (arith minimum (constant u) Vi)
 
   -- N of a comparison or Boolean lookup with the guard g and the test e: "N = g ∧ ¬h; relational N = ¬P"
   unfoldable pub refuted : Reading → (g e P : BExp R) → BExp R

@@ -1,6 +1,6 @@
 pub mod Bounds
-pub mod Demand
 pub mod Formulas
 pub mod Rules
 pub mod Soundness
+pub mod TotalRows
 pub mod Writing

@@ -6,7 +6,7 @@ use mathlib.Core.List.{List, [], _∷_}
 use mathlib.Core.Option.{Option, none, some}
 use lib.IntN.{ℤ, pos, natAbs}
 use lib.ListN.{getD}
-use Rattle.language.specs.Syntax.{Sort, boolean, integer, Arithmetic, plus, minus, times, least, most, Division, quot, rem, Connective, conj, disj, implies, iff, Comparison, equal, unequal, atMost, below, Quantifier, exists, forall}
+use Rattle.language.specs.Syntax.{Sort, boolean, integer, Arithmetic, plus, minus, times, minimum, maximum, Division, quot, rem, Connective, conj, disj, implies, iff, Comparison, equal, unequal, atMost, below, Quantifier, exists, forall}
 use Rattle.language.specs.Tables.{Row, constantRow, variableRow, slotRow, arithRow, divideRow, negateRow, boolToIntRow, lookupRow, sumRow, truthRow, variableBRow, lookupBRow, connectRow, negationRow, compareRow, quantifyRow}
 use Rattle.language.specs.Meaning.{isOne, number}
 use Rattle.table.specs.Records.{ND, recordBytes}
@@ -54,8 +54,8 @@ kinds =
     ∷ two integer integer (divideRow quot)  -- 9
     ∷ two integer integer (divideRow rem)  -- 10
     ∷ kind (nodeNumber integer) unused integer (λ x y. negateRow (natAbs x))  -- 11
-    ∷ two integer integer (arithRow least)  -- 12
-    ∷ two integer integer (arithRow most)  -- 13
+    ∷ two integer integer (arithRow minimum)  -- 12
+    ∷ two integer integer (arithRow maximum)  -- 13
     ∷ kind (nodeNumber boolean) unused integer (λ x y. boolToIntRow (natAbs x))  -- 14
     ∷ kind (arrayNumber integer) (nodeNumber integer) integer (λ x y. lookupRow (natAbs x) (natAbs y))  -- 15
     ∷ kind (arrayNumber boolean) (nodeNumber integer) boolean (λ x y. lookupBRow (natAbs x) (natAbs y))  -- 16
@@ -89,8 +89,8 @@ unfoldable pub arithmeticKind : Arithmetic → ℕ
 arithmeticKind plus = 6
 arithmeticKind minus = 7
 arithmeticKind times = 8
-arithmeticKind least = 12
-arithmeticKind most = 13
+arithmeticKind minimum = 12
+arithmeticKind maximum = 13
 
 unfoldable pub divisionKind : Division → ℕ
 divisionKind quot = 9

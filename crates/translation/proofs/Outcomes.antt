@@ -16,7 +16,8 @@ use Rattle.table.specs.Records.{recordSize}
 use Rattle.answers.specs.Check.{Refusal, refuse, firstFault, checkFault}
 use Rattle.answers.specs.Sections.{nodesAt, nodeCount, rows}
 use Rattle.answers.specs.Answers as Answers
-use Rattle.answers.specs.Answers.{Outcome, refused, done, outcome, readingOf, underChoice, boundsFault, newCount, roomFault, translation, translationFault, translateUnder}
+use Rattle.answers.specs.Answers.{Outcome, refused, done, outcome, readingOf, refuseUnless, boundsFault, newCount, roomFault, translation, translateOrder, translationDone}
+use Rattle.answers.proofs.Orders.{no-reading, readingChosen-is, translate-faults}
 use Rattle.answers.proofs.Faults.{orElse-none, orElse-some}
 use Rattle.answers.proofs.SignedWords.{leb-same}
 use Rattle.answers.proofs.Declared.{length-rows}
@@ -31,19 +32,15 @@ use Rattle.verdict.specs.Results.{isNone}
 use Rattle.verdict.specs.declared.Check.{Check}
 use Rattle.verdict.specs.Results as Verdict
 use Rattle.translation.specs.declared.Translation.the-variants.{Done, BadChoice, Unsound, Beyond, NoRoom}
+use Rattle.translation.specs.Under.{TranslatesUnder}
 use Rattle.translation.specs.Results.{recordBeyond, answerOf, outcomeOf}
 
 -- ---- the choice
 
 -- A choice that is none: 7, and nothing is written.
 pub refused-choice : (c : ℕ) (table lent : List ℕ) → none ≡ readingOf c → outcomeOf BadChoice lent ≡ Answers.translate c table lent
-unfolding Answers.translate underChoice outcome answerOf
-refused-choice c table lent e = rw (Answers.translate, underChoice, ← e)
-
-pub under-reading : (c : ℕ) (table lent : List ℕ) {ρ : Reading} {o : Outcome} → some ρ ≡ readingOf c → o ≡ translateUnder table ρ lent
-    → o ≡ Answers.translate c table lent
-unfolding Answers.translate underChoice
-under-reading c table lent e q = rw (Answers.translate, underChoice, ← e) q
+unfolding Answers.translate translateOrder outcome answerOf
+refused-choice c table lent e = rw (no-reading c (sym e))
 
 -- ---- the room
 
@@ -87,26 +84,42 @@ beyond-within table p passed e =
     omega (arith, first-within _ (nodesAt table) (length (rows table)) (sym e), length-rows table, ordered table passed)
 
 module _ (table : List ℕ) (ρ : Reading) (lent : List ℕ) where
+  -- the faults of every choice of ρ, in order
+  abbrev faults : Option Refusal
+  faults = orElse (checkFault table) (orElse (boundsFault table) (roomFault table ρ (length lent)))
+
+  -- what every choice of ρ gives
+  given : Outcome
+  given = outcome faults (done 0 (length (translation table ρ)) false) (translation table ρ) lent
+
+  under-choice : {o : Outcome} → o ≡ given → TranslatesUnder ρ table lent o
+  unfolding given Answers.translate translationDone
+  under-choice e choice under = rw (translate-faults choice ρ under table (length lent), readingChosen-is choice ρ under) e
+
   -- A refusal changes no byte.
-  pub refusal : {r : Refusal} → translationFault table ρ (length lent) ≡ some r
-      → record { answer = refused r; lent = lent } ≡ translateUnder table ρ lent
-  unfolding translateUnder outcome
-  refusal e = rw e
+  refusal : {r : Refusal} → faults ≡ some r → TranslatesUnder ρ table lent (record { answer = refused r; lent = lent })
+  unfolding given outcome
+  refusal e = under-choice (rw e)
+
+  -- Without one the new table is written.
+  given-none : faults ≡ none → outcome none (done 0 (length (translation table ρ)) false) (translation table ρ) lent ≡ given
+  unfolding given
+  given-none e = rw e
 
   -- What the check refuses.
   pub refused-check : (c : Check) {b : Bool} → Verdict.answerOf c ≡ Answers.check table → b ≡ isNone (Verdict.refusalOf c) → b ≡ false
-      → outcomeOf (Unsound c) lent ≡ translateUnder table ρ lent
-  unfolding translationFault answerOf Verdict.answerOf
+      → TranslatesUnder ρ table lent (outcomeOf (Unsound c) lent)
+  unfolding answerOf Verdict.answerOf
   refused-check c e q f = go (Verdict.refusalOf c) refl
     where
-      go : (o : Option Refusal) → Verdict.refusalOf c ≡ o → outcomeOf (Unsound c) lent ≡ translateUnder table ρ lent
+      go : (o : Option Refusal) → Verdict.refusalOf c ≡ o → TranslatesUnder ρ table lent (outcomeOf (Unsound c) lent)
       go none n = absurd (unsound-some (Verdict.refusalOf c) q f n)
       go (some r) n = rw (Verdict.answerOf, n) (refusal (orElse-some _ (sym (answered→fault table c e) ∙ n)))
 
   -- 8 comes behind the check.
   pub refused-bounds : (p : ℕ) → checkFault table ≡ none → refuse 8 p ≡ boundsFault table
-      → outcomeOf (Beyond p) lent ≡ translateUnder table ρ lent
-  unfolding translationFault answerOf
+      → TranslatesUnder ρ table lent (outcomeOf (Beyond p) lent)
+  unfolding answerOf
   refused-bounds p c b = refusal (orElse-none c ∙ orElse-some (roomFault table ρ (length lent)) (sym b))
 
   -- 9 comes last: the room and the greatest size are both asked.
@@ -114,14 +127,13 @@ module _ (table : List ℕ) (ρ : Reading) (lent : List ℕ) where
   fits records = leb (recordSize * records) (length lent) && leb (recordSize * records) mostBytes
 
   module _ (checked : checkFault table ≡ none) (bounded : boundsFault table ≡ none) where
-    fault-is-room : translationFault table ρ (length lent) ≡ roomFault table ρ (length lent)
-    unfolding translationFault
+    fault-is-room : faults ≡ roomFault table ρ (length lent)
     fault-is-room = orElse-none checked ∙ orElse-none bounded
 
     pub refused-room : (records : ℕ) {b : Bool} → records ≡ newCount table ρ
         → b ≡ (leb (recordSize * records) (length lent) && leb (recordSize * records) mostBytes) → b ≡ false
-        → outcomeOf NoRoom lent ≡ translateUnder table ρ lent
-    unfolding roomFault answerOf
+        → TranslatesUnder ρ table lent (outcomeOf NoRoom lent)
+    unfolding roomFault refuseUnless answerOf
     refused-room records c e f =
         refusal (fault-is-room ∙ ap (λ (t : Bool). cond t none (refuse 9 0)) (ap fits (sym c) ∙ sym e ∙ f))
 
@@ -129,8 +141,7 @@ module _ (table : List ℕ) (ρ : Reading) (lent : List ℕ) where
     pub written : (records : ℕ) {b : Bool} {after : List ℕ} → records ≡ newCount table ρ
         → b ≡ (leb (recordSize * records) (length lent) && leb (recordSize * records) mostBytes) → b ≡ true
         → length (translation table ρ) ≡ recordSize * newCount table ρ → after ≡ translation table ρ ++ drop (length (translation table ρ)) lent
-        → outcomeOf (Done (recordSize * records)) after ≡ translateUnder table ρ lent
-    unfolding translateUnder outcome roomFault answerOf
+        → TranslatesUnder ρ table lent (outcomeOf (Done (recordSize * records)) after)
+    unfolding outcome roomFault refuseUnless answerOf
     written records {after = after} c e f s w =
-        rw (w, c, ← s) (sym (ap (λ o. outcome o (done 0 (length (translation table ρ)) false) (translation table ρ) lent)
-        (fault-is-room ∙ ap (λ (t : Bool). cond t none (refuse 9 0)) (ap fits (sym c) ∙ sym e ∙ f))))
+        under-choice (rw (w, c, ← s) (given-none (fault-is-room ∙ ap (λ (t : Bool). cond t none (refuse 9 0)) (ap fits (sym c) ∙ sym e ∙ f))))

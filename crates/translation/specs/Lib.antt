@@ -1,2 +1,3 @@
 pub mod Results
 pub mod Fronts
+pub mod Under

@@ -12,7 +12,7 @@ ghost use Rattle.table.specs.Records.{recordSize};
 ghost use Rattle.answers.specs.Sections.{nodesAt};
 ghost use Rattle.answers.specs.Check.{checkFault};
 ghost use Rattle.answers.specs.Answers as Answers;
-ghost use Rattle.answers.specs.Answers.{newCount, translation, translateUnder};
+ghost use Rattle.answers.specs.Answers.{newCount, translation};
 ghost use Rattle.verdict.specs.Results.{isNone};
 ghost use Rattle.bounds.specs.Kept.{refusalOf};
 ghost use Rattle.layout.specs.Passed.{Passed};
@@ -20,6 +20,7 @@ ghost use Rattle.sections.specs.Places.{placesOf};
 ghost use Rattle.reading.specs.Readings.{meant};
 ghost use Rattle.translation.specs.Results.{recordBeyond, answerOf, outcomeOf};
 ghost use Rattle.translation.specs.Fronts.{front};
+ghost use Rattle.translation.specs.Under.{TranslatesUnder};
 use bounds::Bounds;
 use bounds::check_bounds;
 use reading::Choice;
@@ -117,7 +118,7 @@ fn record_beyond(bounds: Bounds) -> usize
 // A table that passes the check: the size first, then the refusals, then the writing.
 fn translate_sound(reading: Reading, table: &[u8], out: &mut [u8]) -> Translation
     requires { ⌜ checkFault (now table) ≡ none ⌝ }
-    ensures { λ r. ⌜ outcomeOf r (now (out .exit)) ≡ translateUnder (now (table .entry)) (meant reading) (now (out .entry)) ⌝ }
+    ensures { λ r. ⌜ TranslatesUnder (meant reading) (now (table .entry)) (now (out .entry)) (outcomeOf r (now (out .exit))) ⌝ }
 {
     let at = find_places(table);
     let records = new_records(table, at, reading);
@@ -138,7 +139,7 @@ fn translate_sound(reading: Reading, table: &[u8], out: &mut [u8]) -> Translatio
 
 // A translation under a reading: what the check refuses comes before all else.
 fn translate_under(reading: Reading, table: &[u8], out: &mut [u8]) -> Translation
-    ensures { λ r. ⌜ outcomeOf r (now (out .exit)) ≡ translateUnder (now (table .entry)) (meant reading) (now (out .entry)) ⌝ }
+    ensures { λ r. ⌜ TranslatesUnder (meant reading) (now (table .entry)) (now (out .entry)) (outcomeOf r (now (out .exit))) ⌝ }
 {
     let check = checker::check(table);
     if is_sound(check) {

@@ -15,7 +15,7 @@ use Rattle.table.specs.Records.{recordCount, kindAt, xAt, yAt}
 use Rattle.rules.specs.Bounds.{Interval, only, arithInterval, divideInterval, slotInterval, variableInterval, elementsInterval, interval}
 use Rattle.language.specs.Meaning.{arrayAt, count, slotAt}
 use Rattle.language.specs.Tables.{treeI}
-use Rattle.language.specs.Syntax.{plus, minus, times, least, most, quot, rem, Slot}
+use Rattle.language.specs.Syntax.{plus, minus, times, minimum, maximum, quot, rem, Slot}
 use mir.Facts.{toZ-ofZ}
 use native.Mathlib.Omega.{arith}
 use Prim.Native.Nat.{ℕ, _+_}
@@ -164,10 +164,10 @@ returns-9 : tie.Need-returns-9
 returns-9 c = let d = (c .before .before) in c .negated .ensures ∙ ap opposite (a-is d) ∙ Nodes.negate-ends (bytes d) (number d) (place d) (kind-is d (c .before .match .keys9))
 
 returns-10 : tie.Need-returns-10
-returns-10 c = let d = (c .before .before) in c .lesser .ensures ∙ both-cong (arithInterval least) (a-is d) (b-is d) ∙ Nodes.least-ends (bytes d) (number d) (place d) (kind-is d (c .before .match .keys10))
+returns-10 c = let d = (c .before .before) in c .lesser .ensures ∙ both-cong (arithInterval minimum) (a-is d) (b-is d) ∙ Nodes.minimum-ends (bytes d) (number d) (place d) (kind-is d (c .before .match .keys10))
 
 returns-11 : tie.Need-returns-11
-returns-11 c = let d = (c .before .before) in c .greater .ensures ∙ both-cong (arithInterval most) (a-is d) (b-is d) ∙ Nodes.most-ends (bytes d) (number d) (place d) (kind-is d (c .before .match .keys11))
+returns-11 c = let d = (c .before .before) in c .greater .ensures ∙ both-cong (arithInterval maximum) (a-is d) (b-is d) ∙ Nodes.maximum-ends (bytes d) (number d) (place d) (kind-is d (c .before .match .keys11))
 
 returns-12 : tie.Need-returns-12
 returns-12 c = let d = c .before in Nodes.boolToInt-ends (bytes d) (number d) (place d) (kind-is d (c .match .keys12))

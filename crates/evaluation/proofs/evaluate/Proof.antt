@@ -2,8 +2,8 @@
 -- Assumes nothing.
 use mathlib.Core.Path.{sym, ap, _∙_}
 use borrow.Author.Needs.{needs}
-use Rattle.reading.specs.Readings.{chosen}
-use Rattle.evaluation.proofs.Outcomes.{under-reading, refused-choice}
+use Rattle.reading.specs.Readings.{meantBy}
+use Rattle.evaluation.proofs.Outcomes.{refused-choice}
 use Rattle.evaluation.proofs.evaluate.Statement.{statement}
 use Rattle.evaluation.proofs.evaluate.Tie as tie
 
@@ -23,10 +23,12 @@ same-length : tie.Need-same-length
 same-length c = search needs
 
 returns : tie.Need-returns
-returns c = under-reading _ _ _ _ _ (sym (ap chosen (c .before .before .before .before .before .reading .given .1)) ∙ c .before .before .before .before .before .before .before .reading-of .ensures) (c .before .before .evaluate-under .ensures)
+returns c =
+    let d = c .before .before .before .before .before in
+    c .before .before .evaluate-under .ensures _ (sym (d .before .before .reading-of .ensures) ∙ ap meantBy (d .reading .given .1))
 
 returns-2 : tie.Need-returns-2
-returns-2 c = refused-choice _ _ _ _ _ (sym (ap chosen (c .enum-told .given .1)) ∙ c .before .before .reading-of .ensures)
+returns-2 c = refused-choice _ _ _ _ _ (sym (ap meantBy (c .enum-told .given .1)) ∙ c .before .before .reading-of .ensures)
 
 pub evaluate-spec : {M : Type 1} → statement M
 evaluate-spec =

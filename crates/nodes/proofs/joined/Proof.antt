@@ -9,7 +9,7 @@ use native.Mathlib.Omega.{arith}
 use lib.Bits.{bitAnd, bitOr, and-le-l, or-lt}
 use lib.Dec.{eqb}
 use Rattle.nodes.specs.Facts.{joinedOf}
-use Rattle.nodes.proofs.Choices.{chosen, passed-over}
+use Rattle.nodes.proofs.Choices.{cond-taken, cond-passed-over}
 use borrow.Author.Needs.{needs}
 use Rattle.nodes.proofs.joined.Statement.{statement}
 use Rattle.nodes.proofs.joined.Tie as tie
@@ -30,7 +30,7 @@ returns : tie.Need-returns
 unfolding joinedOf
 returns c =
     let e : c .before .if1 .bound ≡ cond (eqb (c .before .before .args .binds) 1) (c .before .before .args .a / 2) 0 =
-    ⊎-elim (λ w. chosen (c .before .before .args .binds) 1 _ (w .0 .taken) (w .1)) (λ w. passed-over (c .before .before .args .binds) 1 _ (w .0 .left) (w .1))
+    ⊎-elim (λ w. cond-taken (c .before .before .args .binds) 1 _ (w .0 .taken) (w .1)) (λ w. cond-passed-over (c .before .before .args .binds) 1 _ (w .0 .left) (w .1))
     (c .before .if1 .came) in
     rw e
 

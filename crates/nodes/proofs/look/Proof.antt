@@ -11,7 +11,7 @@ use denote.Ref.{now}
 use lib.Dec.{eqb}
 use lib.ListN.{getD}
 use Rattle.nodes.specs.declared.Looked.the-variants.{Fact, OtherType}
-use Rattle.nodes.proofs.Choices.{chosen, passed-over}
+use Rattle.nodes.proofs.Choices.{cond-taken, cond-passed-over}
 use Rattle.nodes.specs.Facts.{placeOf, typed, looked}
 use borrow.Author.Needs.{needs}
 use Rattle.nodes.proofs.look.Statement.{statement}
@@ -51,7 +51,7 @@ add-fact c =
     omega (
       arith,
       place-is (now (c .before .before .before .before .before .args .bases)) (c .before .before .before .before .before .args .code) (c .before .before .before .before .before .args .x)
-          (⊎-elim (λ w. chosen (c .before .before .before .before .before .args .code) 2 _ (w .0 .taken) (w .1)) (λ w. passed-over (c .before .before .before .before .before .args .code) 2 _ (w .0 .left) (w .1)) (c .before .before .if2 .came)),
+          (⊎-elim (λ w. cond-taken (c .before .before .before .before .before .args .code) 2 _ (w .0 .taken) (w .1)) (λ w. cond-passed-over (c .before .before .before .before .before .args .code) 2 _ (w .0 .left) (w .1)) (c .before .before .if2 .came)),
       c .before .before .before .before .before .pre .1 (c .before .before .before .if1 .left),
     )
 
@@ -60,7 +60,7 @@ mul-fact-2 c =
     omega (
       arith,
       place-is (now (c .before .before .before .before .before .args .bases)) (c .before .before .before .before .before .args .code) (c .before .before .before .before .before .args .x)
-          (⊎-elim (λ w. chosen (c .before .before .before .before .before .args .code) 2 _ (w .0 .taken) (w .1)) (λ w. passed-over (c .before .before .before .before .before .args .code) 2 _ (w .0 .left) (w .1)) (c .before .before .if2 .came)),
+          (⊎-elim (λ w. cond-taken (c .before .before .before .before .before .args .code) 2 _ (w .0 .taken) (w .1)) (λ w. cond-passed-over (c .before .before .before .before .before .args .code) 2 _ (w .0 .left) (w .1)) (c .before .before .if2 .came)),
       c .before .before .before .before .before .pre .1 (c .before .before .before .if1 .left),
     )
 
@@ -69,7 +69,7 @@ element-copy-out-fact-2 c =
     omega (
       arith,
       place-is (now (c .before .before .before .before .before .args .bases)) (c .before .before .before .before .before .args .code) (c .before .before .before .before .before .args .x)
-          (⊎-elim (λ w. chosen (c .before .before .before .before .before .args .code) 2 _ (w .0 .taken) (w .1)) (λ w. passed-over (c .before .before .before .before .before .args .code) 2 _ (w .0 .left) (w .1)) (c .before .before .if2 .came)),
+          (⊎-elim (λ w. cond-taken (c .before .before .before .before .before .args .code) 2 _ (w .0 .taken) (w .1)) (λ w. cond-passed-over (c .before .before .before .before .before .args .code) 2 _ (w .0 .left) (w .1)) (c .before .before .if2 .came)),
       c .before .before .before .before .before .pre .1 (c .before .before .before .if1 .left),
     )
 
@@ -83,14 +83,14 @@ returns-2 : tie.Need-returns-2
 returns-2 c =
     found _ _ _ _ _
     (place-is (now (c .before .before .before .before .before .before .before .args .bases)) (c .before .before .before .before .before .before .before .args .code) (c .before .before .before .before .before .before .before .args .x)
-    (⊎-elim (λ w. chosen (c .before .before .before .before .before .before .before .args .code) 2 _ (w .0 .taken) (w .1)) (λ w. passed-over (c .before .before .before .before .before .before .before .args .code) 2 _ (w .0 .left) (w .1)) (c .before .before .before .before .if2 .came)))
+    (⊎-elim (λ w. cond-taken (c .before .before .before .before .before .before .before .args .code) 2 _ (w .0 .taken) (w .1)) (λ w. cond-passed-over (c .before .before .before .before .before .before .before .args .code) 2 _ (w .0 .left) (w .1)) (c .before .before .before .before .if2 .came)))
     (c .before .before .before .before .before .if1 .left) (c .if3 .taken)
 
 returns-3 : tie.Need-returns-3
 returns-3 c =
     other _ _ _ _ _
     (place-is (now (c .before .before .before .before .before .before .before .args .bases)) (c .before .before .before .before .before .before .before .args .code) (c .before .before .before .before .before .before .before .args .x)
-    (⊎-elim (λ w. chosen (c .before .before .before .before .before .before .before .args .code) 2 _ (w .0 .taken) (w .1)) (λ w. passed-over (c .before .before .before .before .before .before .before .args .code) 2 _ (w .0 .left) (w .1)) (c .before .before .before .before .if2 .came)))
+    (⊎-elim (λ w. cond-taken (c .before .before .before .before .before .before .before .args .code) 2 _ (w .0 .taken) (w .1)) (λ w. cond-passed-over (c .before .before .before .before .before .before .before .args .code) 2 _ (w .0 .left) (w .1)) (c .before .before .before .before .if2 .came)))
     (c .before .before .before .before .before .if1 .left) (c .if3 .left)
 
 pub look-spec : {M : Type 1} → statement M

@@ -2,8 +2,8 @@
 -- Assumes nothing.
 use mathlib.Core.Path.{sym, ap, _∙_}
 use borrow.Author.Needs.{needs}
-use Rattle.reading.specs.Readings.{chosen}
-use Rattle.translation.proofs.Outcomes.{refused-choice, under-reading}
+use Rattle.reading.specs.Readings.{meantBy}
+use Rattle.translation.proofs.Outcomes.{refused-choice}
 use Rattle.translation.proofs.translate.Statement.{statement}
 use Rattle.translation.proofs.translate.Tie as tie
 
@@ -24,14 +24,13 @@ same-length c = c .before .before .translate-under .kept .1 .1 .0
 
 returns : tie.Need-returns
 returns c =
-    let d = c .before .before .before .before .before .before .before .before .before .before in
-    under-reading (d .args .choice) (d .args .table .now) (d .args .out .now) (sym (ap chosen (c .before .before .before .before .before .reading .given .1)) ∙ c .before .before .before .before .before .before .before .reading-of .ensures)
-    (c .before .before .translate-under .ensures)
+    let d = c .before .before .before .before .before in
+    c .before .before .translate-under .ensures _ (sym (d .before .before .reading-of .ensures) ∙ ap meantBy (d .reading .given .1))
 
 returns-2 : tie.Need-returns-2
 returns-2 c =
     let d = c .before .before .before .before .before in
-    refused-choice (d .args .choice) (d .args .table .now) (d .args .out .now) (sym (ap chosen (c .enum-told .given .1)) ∙ c .before .before .reading-of .ensures)
+    refused-choice (d .args .choice) (d .args .table .now) (d .args .out .now) (sym (ap meantBy (c .enum-told .given .1)) ∙ c .before .before .reading-of .ensures)
 
 pub translate-spec : {M : Type 1} → statement M
 translate-spec =

@@ -167,15 +167,15 @@ returns-10 : tie.Need-returns-10
 unfolding kindOf kinds integerCase rowIn
 returns-10 c =
     let s = c .before .before .before .before .before .before .args in
-    ap₂ (λ a b. integer.Calculated arithmetic.Least a b) (c .before .node-x7 .ensures) (c .node-y6 .ensures)
-    ∙ of-kind integerCase (λ x y. integer.Calculated arithmetic.Least (node (natAbs x)) (node (natAbs y))) (s .t .now) (nodesFrom (s .places .now) + s .n .0) 12 (sym (c .before .before .before .kind-at .ensures) ∙ c .before .before .match .keys10) (λ x y. refl)
+    ap₂ (λ a b. integer.Calculated arithmetic.Minimum a b) (c .before .node-x7 .ensures) (c .node-y6 .ensures)
+    ∙ of-kind integerCase (λ x y. integer.Calculated arithmetic.Minimum (node (natAbs x)) (node (natAbs y))) (s .t .now) (nodesFrom (s .places .now) + s .n .0) 12 (sym (c .before .before .before .kind-at .ensures) ∙ c .before .before .match .keys10) (λ x y. refl)
 
 returns-11 : tie.Need-returns-11
 unfolding kindOf kinds integerCase rowIn
 returns-11 c =
     let s = c .before .before .before .before .before .before .args in
-    ap₂ (λ a b. integer.Calculated arithmetic.Most a b) (c .before .node-x8 .ensures) (c .node-y7 .ensures)
-    ∙ of-kind integerCase (λ x y. integer.Calculated arithmetic.Most (node (natAbs x)) (node (natAbs y))) (s .t .now) (nodesFrom (s .places .now) + s .n .0) 13 (sym (c .before .before .before .kind-at .ensures) ∙ c .before .before .match .keys11) (λ x y. refl)
+    ap₂ (λ a b. integer.Calculated arithmetic.Maximum a b) (c .before .node-x8 .ensures) (c .node-y7 .ensures)
+    ∙ of-kind integerCase (λ x y. integer.Calculated arithmetic.Maximum (node (natAbs x)) (node (natAbs y))) (s .t .now) (nodesFrom (s .places .now) + s .n .0) 13 (sym (c .before .before .before .kind-at .ensures) ∙ c .before .before .match .keys11) (λ x y. refl)
 
 returns-12 : tie.Need-returns-12
 unfolding kindOf kinds integerCase rowIn

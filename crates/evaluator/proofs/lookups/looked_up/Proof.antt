@@ -14,7 +14,7 @@ use Rattle.language.specs.Meaning.{Assignment, arrayAt, elementAt}
 use Rattle.operations.specs.declared.values.Value.{Value}
 use Rattle.operations.specs.declared.values.Value.the-variants.{Undefined}
 use Rattle.operations.specs.declared.values.Walked.{Walked}
-use Rattle.operations.specs.Values.{integerOf, ofInteger, ofCalm, limitedTo}
+use Rattle.operations.specs.Values.{integerOf, ofInteger, ofWalk, limitedTo}
 use Rattle.evaluator.specs.Walks.{declared, lookedUp}
 use Rattle.operations.proofs.Pairs.{missing, integerOf-ofInteger}
 use Rattle.evaluator.proofs.lookups.looked_up.Statement.{statement}
@@ -22,13 +22,13 @@ use Rattle.evaluator.proofs.lookups.looked_up.Tie as tie
 
 module _ (Γ : Declarations) (α : Assignment) (A : ℕ) (i : Walked) where
   found : {z : ℤ} {v : Value} → SFits w32 z → integerOf (i .value) ≡ some z → v ≡ ofInteger (elementAt α (arrayAt Γ A) (toZ w32 (ofZ w32 z))) →
-      limitedTo (i .calm) (integerOf v) ≡ lookedUp strict Γ α A i
+      limitedTo (i .within) (integerOf v) ≡ lookedUp strict Γ α A i
   unfolding lookedUp bind
-  found {z} f e h = rw (e, h, toZ-ofZ f) (ap (limitedTo (i .calm)) (integerOf-ofInteger (elementAt α (arrayAt Γ A) z)))
+  found {z} f e h = rw (e, h, toZ-ofZ f) (ap (limitedTo (i .within)) (integerOf-ofInteger (elementAt α (arrayAt Γ A) z)))
 
-  no-index : integerOf (i .value) ≡ none → ofCalm (i .calm) Undefined ≡ lookedUp strict Γ α A i
+  no-index : integerOf (i .value) ≡ none → ofWalk (i .within) Undefined ≡ lookedUp strict Γ α A i
   unfolding lookedUp bind
-  no-index e = rw e (missing (i .calm))
+  no-index e = rw e (missing (i .within))
 
 enum-known-v : tie.Need-enum-known-v
 enum-known-v c = search needs

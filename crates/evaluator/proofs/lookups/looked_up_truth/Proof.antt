@@ -10,7 +10,7 @@ use mir.Val.{SFits, toZ, ofZ}
 use mir.Facts.{toZ-ofZ}
 use Rattle.language.specs.Syntax.{Declarations}
 use Rattle.language.specs.Readings as readings
-use Rattle.language.specs.Readings.{closed}
+use Rattle.language.specs.Readings.{atomic}
 use Rattle.language.specs.Meaning.{Assignment, arrayAt, elementAt, isOne}
 use Rattle.operations.specs.declared.values.Value.{Value}
 use Rattle.operations.specs.declared.values.Walked.{Walked}
@@ -23,11 +23,11 @@ use Rattle.evaluator.proofs.lookups.looked_up_truth.Tie as tie
 
 module _ (ρ : readings.Reading) (Γ : Declarations) (α : Assignment) (A : ℕ) (i : Walked) where
   found : {z : ℤ} {v : Value} → SFits w32 z → integerOf (i .value) ≡ some z → v ≡ ofInteger (elementAt α (arrayAt Γ A) (toZ w32 (ofZ w32 z))) →
-      truthTo (i .calm) (closed ρ (Option·map isOne (integerOf v))) ≡ lookedUpTruth ρ Γ α A i
+      truthTo (i .within) (atomic ρ (Option·map isOne (integerOf v))) ≡ lookedUpTruth ρ Γ α A i
   unfolding lookedUpTruth bind
-  found {z} f e h = rw (e, h, toZ-ofZ f) (ap (λ o. truthTo (i .calm) (closed ρ (Option·map isOne o))) (integerOf-ofInteger (elementAt α (arrayAt Γ A) z)))
+  found {z} f e h = rw (e, h, toZ-ofZ f) (ap (λ o. truthTo (i .within) (atomic ρ (Option·map isOne o))) (integerOf-ofInteger (elementAt α (arrayAt Γ A) z)))
 
-  no-index : integerOf (i .value) ≡ none → truthTo (i .calm) (closed ρ (Option·map isOne none)) ≡ lookedUpTruth ρ Γ α A i
+  no-index : integerOf (i .value) ≡ none → truthTo (i .within) (atomic ρ (Option·map isOne none)) ≡ lookedUpTruth ρ Γ α A i
   unfolding lookedUpTruth bind
   no-index e = rw e
 

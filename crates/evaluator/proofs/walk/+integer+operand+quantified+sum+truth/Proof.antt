@@ -20,7 +20,7 @@ use Rattle.operations.specs.declared.values.Walked.{Walked}
 use Rattle.operations.specs.declared.sums.Total.{Total}
 use Rattle.operations.specs.declared.values.Value.the-variants.{Truth}
 use Rattle.reading.specs.Readings.{meant}
-use Rattle.operations.specs.Values.{ofCalm}
+use Rattle.operations.specs.Values.{ofWalk}
 use Rattle.operations.specs.Integers.{arithmeticOf, divisionOf, integers, negated, numbered}
 use Rattle.operations.specs.Truths.{connectiveOf, compared, connected, opposed}
 use Rattle.evaluator.specs.Walks.{Ready, quantifierOf, declared, integerAt, truthAt, lookedUp, lookedUpTruth}
@@ -66,7 +66,7 @@ use Rattle.operations.proofs.truths.connect.Reads as connect-reads
 use Rattle.operations.proofs.truths.negation.Reads as negation-reads
 use Rattle.operations.proofs.values.limited.Reads as limited-reads
 use Rattle.operations.proofs.values.limited_value.Reads as limited-value-reads
-use Rattle.operations.proofs.values.of_calm.Reads as of-calm-reads
+use Rattle.operations.proofs.values.of_walk.Reads as of-walk-reads
 use Rattle.operations.proofs.values.truth_of.Reads as truth-of-reads
 use Rattle.evaluator.proofs.walk.empty.Reads as empty-reads
 use Rattle.evaluator.proofs.walk.joins.Reads as joins-reads
@@ -165,7 +165,7 @@ sum-calls t =
 
 abbrev truth-calls : ℕ → truth-lts.Claims
 truth-calls t =
-    (truth-node-reads.Asked, truth-node-reads.Learnt, of-calm-reads.Asked, of-calm-reads.Learnt, variable-reads.Asked, variable-reads.Learnt, truth-of-reads.Asked, truth-of-reads.Learnt, operand-below t, operand.Post, looked-up-truth-reads.Asked, looked-up-truth-reads.Learnt, truth-below t, truth.Post, connect-reads.Asked, connect-reads.Learnt, negation-reads.Asked, negation-reads.Learnt, compare-reads.Asked, compare-reads.Learnt, quantified-below t, quantified.Post)
+    (truth-node-reads.Asked, truth-node-reads.Learnt, of-walk-reads.Asked, of-walk-reads.Learnt, variable-reads.Asked, variable-reads.Learnt, truth-of-reads.Asked, truth-of-reads.Learnt, operand-below t, operand.Post, looked-up-truth-reads.Asked, looked-up-truth-reads.Learnt, truth-below t, truth.Post, connect-reads.Asked, connect-reads.Learnt, negation-reads.Asked, negation-reads.Learnt, compare-reads.Asked, compare-reads.Learnt, quantified-below t, quantified.Post)
 
 integer-integer-node-requires : (t : ℕ) → integer-lts.Need-integer-node-requires (integer-calls t) (integer-at t) integer.Post
 integer-integer-node-requires t c κs = node-in (c .pre .1)
@@ -607,8 +607,8 @@ truth-truth-node-requires t c κs = node-in (c .pre .1)
 truth-enum-known-v : (t : ℕ) → truth-lts.Need-enum-known-v (truth-calls t) (truth-at t) truth.Post
 truth-enum-known-v t c = search needs
 
-truth-of-calm-requires : (t : ℕ) → truth-lts.Need-of-calm-requires (truth-calls t) (truth-at t) truth.Post
-truth-of-calm-requires t c κs = tt
+truth-of-walk-requires : (t : ℕ) → truth-lts.Need-of-walk-requires (truth-calls t) (truth-at t) truth.Post
+truth-of-walk-requires t c κs = tt
 
 truth-enum-known-v-2 : (t : ℕ) → truth-lts.Need-enum-known-v-2 (truth-calls t) (truth-at t) truth.Post
 truth-enum-known-v-2 t c = search needs
@@ -756,14 +756,14 @@ truth-returns t c =
     let s = c .before .before .before .before .before in
     let ρ = meant (s .args .reading) in
     let α = s .args .assignment .now in
-    (c .of-calm .ensures ∙ truth-case (s .pre .1) ρ α (c .before .before .before .before .truth-node .ensures) (c .before .before .v .given .1), refl)
+    (c .of-walk .ensures ∙ truth-case (s .pre .1) ρ α (c .before .before .before .before .truth-node .ensures) (c .before .before .v .given .1), refl)
 
 truth-returns-2 : (t : ℕ) → truth-lts.Need-returns-2 (truth-calls t) (truth-at t) truth.Post
 truth-returns-2 t c =
     let s = c .before .before .before .before .before .before in
     let ρ = meant (s .args .reading) in
     let α = s .args .assignment .now in
-    (c .truth-of .ensures ∙ ap (λ b. ofCalm true (Truth b)) (is-one (sfits-of (c .before .variable .ok)) (c .before .variable .ensures)) ∙ truth-case (s .pre .1) ρ α (c .before .before .before .before .before .truth-node .ensures) (c .before .before .before .v2 .given .1), refl)
+    (c .truth-of .ensures ∙ ap (λ b. ofWalk true (Truth b)) (is-one (sfits-of (c .before .variable .ok)) (c .before .variable .ensures)) ∙ truth-case (s .pre .1) ρ α (c .before .before .before .before .before .truth-node .ensures) (c .before .before .before .v2 .given .1), refl)
 
 truth-returns-3 : (t : ℕ) → truth-lts.Need-returns-3 (truth-calls t) (truth-at t) truth.Post
 truth-returns-3 t c =
@@ -952,7 +952,7 @@ pub +integer+operand+quantified+sum+truth-spec : {M : Type 1} → statement M
     truth.Post
     (truth-truth-node-requires t)
     (truth-enum-known-v t)
-    (truth-of-calm-requires t)
+    (truth-of-walk-requires t)
     (truth-enum-known-v-2 t)
     (truth-variable-requires t)
     (truth-truth-of-requires t)

@@ -8,16 +8,16 @@ use Rattle.language.specs.Readings as readings
 use Rattle.operations.specs.declared.values.Value.the-variants.{Truth}
 use Rattle.operations.specs.declared.values.Quantifier.{Quantifier}
 use Rattle.operations.specs.declared.values.Quantifier.the-variants.{Exists, Forall}
-use Rattle.operations.specs.Values.{ofTruth, ofCalm}
+use Rattle.operations.specs.Values.{ofTruth, ofWalk}
 use Rattle.evaluator.specs.Walks.{quantifierOf}
 use Rattle.evaluator.proofs.walk.empty.Statement.{statement}
 use Rattle.evaluator.proofs.walk.empty.Tie as tie
 
-by-exists : {q : Quantifier} → q ≡ Exists → ofCalm true (Truth false) ≡ ofCalm true (ofTruth (some (readings.ofNone (quantifierOf q))))
+by-exists : {q : Quantifier} → q ≡ Exists → ofWalk true (Truth false) ≡ ofWalk true (ofTruth (some (readings.ofNone (quantifierOf q))))
 unfolding readings.ofNone
 by-exists e = rw e
 
-by-forall : {q : Quantifier} → q ≡ Forall → ofCalm true (Truth true) ≡ ofCalm true (ofTruth (some (readings.ofNone (quantifierOf q))))
+by-forall : {q : Quantifier} → q ≡ Forall → ofWalk true (Truth true) ≡ ofWalk true (ofTruth (some (readings.ofNone (quantifierOf q))))
 unfolding readings.ofNone
 by-forall e = rw e
 

@@ -31,8 +31,8 @@ combined-requires c κs = search needs
 limited-requires : tie.Need-limited-requires
 limited-requires c κs = search needs
 
-enum-known-calm : tie.Need-enum-known-calm
-enum-known-calm c = search needs
+enum-known-within : tie.Need-enum-known-within
+enum-known-within c = search needs
 
 undefined-requires : tie.Need-undefined-requires
 undefined-requires c κs = search needs
@@ -53,7 +53,7 @@ returns-2 : tie.Need-returns-2
 returns-2 c =
     let s = c .before .before .before .before .before .args in
     c .undefined .ensures
-    ∙ sym (integers-missing (λ u v. some (arithmetic (arithmeticOf (s .op)) u v)) (s .a) (s .b) (sym (c .before .before .before .before .integers-of .ensures) ∙ c .before .before .calm .given .1))
+    ∙ sym (integers-missing (λ u v. some (arithmetic (arithmeticOf (s .op)) u v)) (s .a) (s .b) (sym (c .before .before .before .before .integers-of .ensures) ∙ c .before .before .within .given .1))
 
 pub calculate-spec : {M : Type 1} → statement M
 calculate-spec =
@@ -63,7 +63,7 @@ calculate-spec =
     enum-known-x
     combined-requires
     limited-requires
-    enum-known-calm
+    enum-known-within
     undefined-requires
     returns
     returns-2)

@@ -12,7 +12,7 @@ use Rattle.numbers.specs.Whole as whole
 use Rattle.numbers.proofs.Widths.{widened, arrives, result-fits, result-arrives, +-fits, minus-fits, *-fits}
 use Rattle.language.specs.Readings.{arithmetic}
 use Rattle.operations.specs.declared.integers.Arithmetic.{Arithmetic}
-use Rattle.operations.specs.declared.integers.Arithmetic.the-variants.{Plus, Minus, Times, Least, Most}
+use Rattle.operations.specs.declared.integers.Arithmetic.the-variants.{Plus, Minus, Times, Minimum, Maximum}
 use Rattle.operations.specs.Integers.{arithmeticOf}
 use Rattle.operations.proofs.integers.combined.Statement.{statement}
 use Rattle.operations.proofs.integers.combined.Tie as tie
@@ -30,21 +30,21 @@ module _ {op : Arithmetic} {r : ℤ} (x y : ℤ) where
   unfolding arithmetic
   by-times e h = rw e h
 
-  by-least-x : op ≡ Least → leZ x y ≡ true → r ≡ x → r ≡ arithmetic (arithmeticOf op) x y
+  by-minimum-x : op ≡ Minimum → leZ x y ≡ true → r ≡ x → r ≡ arithmetic (arithmeticOf op) x y
   unfolding arithmetic whole.least
-  by-least-x e t h = rw (e, t) h
+  by-minimum-x e t h = rw (e, t) h
 
-  by-least-y : op ≡ Least → leZ x y ≡ false → r ≡ y → r ≡ arithmetic (arithmeticOf op) x y
+  by-minimum-y : op ≡ Minimum → leZ x y ≡ false → r ≡ y → r ≡ arithmetic (arithmeticOf op) x y
   unfolding arithmetic whole.least
-  by-least-y e t h = rw (e, t) h
+  by-minimum-y e t h = rw (e, t) h
 
-  by-most-y : op ≡ Most → leZ x y ≡ true → r ≡ y → r ≡ arithmetic (arithmeticOf op) x y
+  by-maximum-y : op ≡ Maximum → leZ x y ≡ true → r ≡ y → r ≡ arithmetic (arithmeticOf op) x y
   unfolding arithmetic whole.greatest
-  by-most-y e t h = rw (e, t) h
+  by-maximum-y e t h = rw (e, t) h
 
-  by-most-x : op ≡ Most → leZ x y ≡ false → r ≡ x → r ≡ arithmetic (arithmeticOf op) x y
+  by-maximum-x : op ≡ Maximum → leZ x y ≡ false → r ≡ x → r ≡ arithmetic (arithmeticOf op) x y
   unfolding arithmetic whole.greatest
-  by-most-x e t h = rw (e, t) h
+  by-maximum-x e t h = rw (e, t) h
 
 -- A test of two numbers that go through their bits is the numbers' own.
 tested : {t : Bool} (x y : ℤ) → SFits w32 x → SFits w32 y → leZ (toZ w32 (ofZ w32 x)) (toZ w32 (ofZ w32 y)) ≡ t → leZ x y ≡ t
@@ -131,25 +131,25 @@ returns-3 c =
 returns-4 : tie.Need-returns-4
 returns-4 c =
     let s = c .before .before .before in
-    by-least-x (s .args .x) (s .args .y) (c .before .enum-told4 .given .1) (tested (s .args .x) (s .args .y) (s .fits .x) (s .fits .y) (c .if1 .taken))
+    by-minimum-x (s .args .x) (s .args .y) (c .before .enum-told4 .given .1) (tested (s .args .x) (s .args .y) (s .fits .x) (s .fits .y) (c .if1 .taken))
     (arrives (s .args .x) (s .fits .x))
 
 returns-5 : tie.Need-returns-5
 returns-5 c =
     let s = c .before .before .before in
-    by-least-y (s .args .x) (s .args .y) (c .before .enum-told4 .given .1) (tested (s .args .x) (s .args .y) (s .fits .x) (s .fits .y) (c .if1 .left))
+    by-minimum-y (s .args .x) (s .args .y) (c .before .enum-told4 .given .1) (tested (s .args .x) (s .args .y) (s .fits .x) (s .fits .y) (c .if1 .left))
     (arrives (s .args .y) (s .fits .y))
 
 returns-6 : tie.Need-returns-6
 returns-6 c =
     let s = c .before .before .before in
-    by-most-y (s .args .x) (s .args .y) (c .before .enum-told5 .given .1) (tested (s .args .x) (s .args .y) (s .fits .x) (s .fits .y) (c .if2 .taken))
+    by-maximum-y (s .args .x) (s .args .y) (c .before .enum-told5 .given .1) (tested (s .args .x) (s .args .y) (s .fits .x) (s .fits .y) (c .if2 .taken))
     (arrives (s .args .y) (s .fits .y))
 
 returns-7 : tie.Need-returns-7
 returns-7 c =
     let s = c .before .before .before in
-    by-most-x (s .args .x) (s .args .y) (c .before .enum-told5 .given .1) (tested (s .args .x) (s .args .y) (s .fits .x) (s .fits .y) (c .if2 .left))
+    by-maximum-x (s .args .x) (s .args .y) (c .before .enum-told5 .given .1) (tested (s .args .x) (s .args .y) (s .fits .x) (s .fits .y) (c .if2 .left))
     (arrives (s .args .x) (s .fits .x))
 
 pub combined-spec : {M : Type 1} → statement M

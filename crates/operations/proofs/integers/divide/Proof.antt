@@ -12,17 +12,17 @@ use Rattle.numbers.specs.Whole.{eqZ}
 use Rattle.numbers.proofs.Widths.{zero-bits, nonzero-bits}
 use Rattle.language.specs.Syntax as syntax
 use Rattle.language.specs.Readings.{division, part}
-use Rattle.language.specs.Meaning.{calmValue}
+use Rattle.language.specs.Meaning.{valueWithin}
 use Rattle.operations.specs.declared.values.Value.the-variants.{Undefined}
-use Rattle.operations.specs.Values.{ofCalm, limitedTo}
+use Rattle.operations.specs.Values.{ofWalk, limitedTo}
 use Rattle.operations.specs.Integers.{divisionOf}
 use Rattle.operations.proofs.Pairs.{integers-both, integers-missing}
 use Rattle.operations.proofs.integers.divide.Statement.{statement}
 use Rattle.operations.proofs.integers.divide.Tie as tie
 
 module _ (op : syntax.Division) (x y : ℤ) where
-  by-zero : eqZ y (pos 0) ≡ true → limitedTo true (division op x y) ≡ ofCalm true Undefined
-  unfolding division limitedTo calmValue
+  by-zero : eqZ y (pos 0) ≡ true → limitedTo true (division op x y) ≡ ofWalk true Undefined
+  unfolding division limitedTo valueWithin
   by-zero e = rw e
 
   by-other : eqZ y (pos 0) ≡ false → limitedTo true (division op x y) ≡ limitedTo true (some (part op x y))
@@ -50,8 +50,8 @@ part-requires c κs =
 limited-requires : tie.Need-limited-requires
 limited-requires c κs = search needs
 
-enum-known-calm : tie.Need-enum-known-calm
-enum-known-calm c = search needs
+enum-known-within : tie.Need-enum-known-within
+enum-known-within c = search needs
 
 undefined-requires-2 : tie.Need-undefined-requires-2
 undefined-requires-2 c κs = search needs
@@ -83,7 +83,7 @@ returns-3 : tie.Need-returns-3
 returns-3 c =
     let s = c .before .before .before .before .before .args in
     c .undefined2 .ensures
-    ∙ sym (integers-missing (division (divisionOf (s .op))) (s .a) (s .b) (sym (c .before .before .before .before .integers-of .ensures) ∙ c .before .before .calm .given .1))
+    ∙ sym (integers-missing (division (divisionOf (s .op))) (s .a) (s .b) (sym (c .before .before .before .before .integers-of .ensures) ∙ c .before .before .within .given .1))
 
 pub divide-spec : {M : Type 1} → statement M
 divide-spec =
@@ -94,7 +94,7 @@ divide-spec =
     undefined-requires
     part-requires
     limited-requires
-    enum-known-calm
+    enum-known-within
     undefined-requires-2
     returns
     returns-2

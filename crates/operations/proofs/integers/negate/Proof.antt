@@ -10,19 +10,19 @@ use borrow.Author.Needs.{needs}
 use Rattle.numbers.proofs.Widths.{through, widened, arrives, negation-fits}
 use Rattle.operations.specs.declared.values.Value.the-variants.{Undefined}
 use Rattle.operations.specs.declared.values.Walked.{Walked}
-use Rattle.operations.specs.Values.{integerOf, ofCalm, limitedTo}
+use Rattle.operations.specs.Values.{integerOf, ofWalk, limitedTo}
 use Rattle.operations.specs.Integers.{negated}
 use Rattle.operations.proofs.Pairs.{missing}
 use Rattle.operations.proofs.integers.negate.Statement.{statement}
 use Rattle.operations.proofs.integers.negate.Tie as tie
 
-of-integer : (a : Walked) (z : ℤ) {x : ℤ} → SFits w32 z → x ≡ toZ w64 (ofZ w64 (pos 0 -ℤ through z)) → integerOf (a .value) ≡ some z → limitedTo (a .calm) (some x) ≡ negated a
+of-integer : (a : Walked) (z : ℤ) {x : ℤ} → SFits w32 z → x ≡ toZ w64 (ofZ w64 (pos 0 -ℤ through z)) → integerOf (a .value) ≡ some z → limitedTo (a .within) (some x) ≡ negated a
 unfolding negated Option·map
 of-integer a z f e h = rw (e, h, arrives z f, toZ-ofZ (negation-fits z f), +ℤ-idl (negℤ z))
 
-of-missing : (a : Walked) → integerOf (a .value) ≡ none → ofCalm (a .calm) Undefined ≡ negated a
+of-missing : (a : Walked) → integerOf (a .value) ≡ none → ofWalk (a .within) Undefined ≡ negated a
 unfolding negated Option·map
-of-missing a h = rw h (missing (a .calm))
+of-missing a h = rw h (missing (a .within))
 
 enum-known-v : tie.Need-enum-known-v
 enum-known-v c = search needs

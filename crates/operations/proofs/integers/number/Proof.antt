@@ -8,13 +8,13 @@ use borrow.Author.Needs.{needs}
 use Rattle.language.specs.Meaning as meaning
 use Rattle.operations.specs.declared.values.Value.the-variants.{Undefined}
 use Rattle.operations.specs.declared.values.Walked.{Walked}
-use Rattle.operations.specs.Values.{truthOf, ofCalm, limitedTo}
+use Rattle.operations.specs.Values.{truthOf, ofWalk, limitedTo}
 use Rattle.operations.specs.Integers.{numbered}
 use Rattle.operations.proofs.Pairs.{missing}
 use Rattle.operations.proofs.integers.number.Statement.{statement}
 use Rattle.operations.proofs.integers.number.Tie as tie
 
-of-truth : (a : Walked) {b : Bool} (z : ℤ) → truthOf (a .value) ≡ some b → meaning.number b ≡ z → limitedTo (a .calm) (some z) ≡ numbered a
+of-truth : (a : Walked) {b : Bool} (z : ℤ) → truthOf (a .value) ≡ some b → meaning.number b ≡ z → limitedTo (a .within) (some z) ≡ numbered a
 unfolding numbered Option·map
 of-truth a z h e = rw (h, e)
 
@@ -26,9 +26,9 @@ of-zero : (b : Bool) → b ≡ false → meaning.number b ≡ pos 0
 unfolding meaning.number
 of-zero b e = rw e
 
-of-missing : (a : Walked) → truthOf (a .value) ≡ none → ofCalm (a .calm) Undefined ≡ numbered a
+of-missing : (a : Walked) → truthOf (a .value) ≡ none → ofWalk (a .within) Undefined ≡ numbered a
 unfolding numbered Option·map
-of-missing a h = rw h (missing (a .calm))
+of-missing a h = rw h (missing (a .within))
 
 enum-told : tie.Need-enum-told
 enum-told c = search needs

@@ -41,28 +41,28 @@ module _ (t : Total) (a : Walked) where
     sum-fits : SFits w64 (toZ w64 (ofZ w64 (t .sum)) +ℤ through x)
     sum-fits = rw sum-is (natAbs→fits (t .sum +ℤ x) (omega (arith, sum-small)))
 
-    grown : t .calm ≡ true → a .calm ≡ true → integerOf (a .value) ≡ some x → t .defined ≡ true →
-        Grown (record { sum = toZ w64 (ofZ w64 (toZ w64 (ofZ w64 (t .sum)) +ℤ through x)); defined = true; calm = true })
+    grown : t .within ≡ true → a .within ≡ true → integerOf (a .value) ≡ some x → t .defined ≡ true →
+        Grown (record { sum = toZ w64 (ofZ w64 (toZ w64 (ofZ w64 (t .sum)) +ℤ through x)); defined = true; within = true })
     unfolding plusTo both
     grown p q e d = (rw (p, q, e, d, back), rw back sum-small)
       where
         back : toZ w64 (ofZ w64 (toZ w64 (ofZ w64 (t .sum)) +ℤ through x)) ≡ t .sum +ℤ x
         back = toZ-ofZ sum-fits ∙ sum-is
 
-  undefined-before : {x : ℤ} → t .calm ≡ true → a .calm ≡ true → integerOf (a .value) ≡ some x → t .defined ≡ false →
-      Grown (record { sum = pos 0; defined = false; calm = true })
+  undefined-before : {x : ℤ} → t .within ≡ true → a .within ≡ true → integerOf (a .value) ≡ some x → t .defined ≡ false →
+      Grown (record { sum = pos 0; defined = false; within = true })
   unfolding plusTo both
   undefined-before p q e d = (rw (p, q, e, d), omega arith)
 
-  undefined-here : t .calm ≡ true → a .calm ≡ true → integerOf (a .value) ≡ none → Grown (record { sum = pos 0; defined = false; calm = true })
+  undefined-here : t .within ≡ true → a .within ≡ true → integerOf (a .value) ≡ none → Grown (record { sum = pos 0; defined = false; within = true })
   unfolding plusTo
   undefined-here p q e = (rw (p, q, e, both-none (totalValue t)), omega arith)
 
-  uneasy-before : t .calm ≡ false → Grown (record { sum = pos 0; defined = false; calm = false })
+  uneasy-before : t .within ≡ false → Grown (record { sum = pos 0; defined = false; within = false })
   unfolding plusTo
   uneasy-before p = (rw p, omega arith)
 
-  uneasy-here : t .calm ≡ true → a .calm ≡ false → Grown (record { sum = pos 0; defined = false; calm = false })
+  uneasy-here : t .within ≡ true → a .within ≡ false → Grown (record { sum = pos 0; defined = false; within = false })
   unfolding plusTo
   uneasy-here p q = (rw (p, q), omega arith)
 

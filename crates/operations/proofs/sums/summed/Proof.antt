@@ -9,18 +9,18 @@ use mir.Val.{SFits, toZ, ofZ}
 use mir.Facts.{toZ-ofZ}
 use Rattle.operations.specs.declared.values.Value.the-variants.{Undefined}
 use Rattle.operations.specs.declared.sums.Total.{Total}
-use Rattle.operations.specs.Values.{ofCalm, limitedTo}
+use Rattle.operations.specs.Values.{ofWalk, limitedTo}
 use Rattle.operations.specs.Sums.{totalValue}
 use Rattle.operations.proofs.Pairs.{missing}
 use Rattle.operations.proofs.sums.summed.Statement.{statement}
 use Rattle.operations.proofs.sums.summed.Tie as tie
 
 module _ (t : Total) where
-  whole : SFits w64 (t .sum) → t .defined ≡ true → limitedTo (t .calm) (some (toZ w64 (ofZ w64 (t .sum)))) ≡ limitedTo (t .calm) (totalValue t)
+  whole : SFits w64 (t .sum) → t .defined ≡ true → limitedTo (t .within) (some (toZ w64 (ofZ w64 (t .sum)))) ≡ limitedTo (t .within) (totalValue t)
   whole f d = rw (toZ-ofZ f, d)
 
-  none-left : t .defined ≡ false → ofCalm (t .calm) Undefined ≡ limitedTo (t .calm) (totalValue t)
-  none-left d = rw d (missing (t .calm))
+  none-left : t .defined ≡ false → ofWalk (t .within) Undefined ≡ limitedTo (t .within) (totalValue t)
+  none-left d = rw d (missing (t .within))
 
 limited-requires : tie.Need-limited-requires
 limited-requires c κs = search needs

@@ -8,10 +8,10 @@ use lib.IntN.{ℤ}
 use mir.Syntax.{w32}
 use mir.Val.{SFits, toZ, ofZ}
 use mir.Facts.{toZ-ofZ}
-use Rattle.language.specs.Readings.{comparison, closed}
+use Rattle.language.specs.Readings.{comparison, atomic}
 use Rattle.operations.specs.declared.values.Value.the-variants.{Truth}
 use Rattle.reading.specs.Readings.{meant}
-use Rattle.operations.specs.Values.{ofCalm, truthTo}
+use Rattle.operations.specs.Values.{ofWalk, truthTo}
 use Rattle.operations.specs.Truths.{comparisonOf, levelled}
 use Rattle.operations.proofs.Pairs.{compared-both, compared-missing}
 use Rattle.operations.proofs.Levels.{levelled-levelOf}
@@ -33,8 +33,8 @@ holds-requires c κs = search needs
 truth-of-requires : tie.Need-truth-of-requires
 truth-of-requires c κs = search needs
 
-enum-known-calm : tie.Need-enum-known-calm
-enum-known-calm c = search needs
+enum-known-within : tie.Need-enum-known-within
+enum-known-within c = search needs
 
 open-level-requires : tie.Need-open-level-requires
 open-level-requires c κs = search needs
@@ -50,7 +50,7 @@ returns c =
     let p : SFits w32 x = search needs in
     let q : SFits w32 y = search needs in
     c .truth-of .ensures
-    ∙ ap (λ b. ofCalm true (Truth b)) (worked-out (comparison (comparisonOf (s .c))) x y p q (c .before .holds .ensures))
+    ∙ ap (λ b. ofWalk true (Truth b)) (worked-out (comparison (comparisonOf (s .c))) x y p q (c .before .holds .ensures))
     ∙ sym (compared-both (meant (s .reading)) (comparisonOf (s .c)) (s .a) (s .b) (sym (c .before .before .before .before .before .integers-of .ensures) ∙ c .before .before .before .x .given .1))
 
 returns-2 : tie.Need-returns-2
@@ -58,8 +58,8 @@ returns-2 c =
     let s = c .before .before .before .before .before .before .args in
     let ρ = meant (s .reading) in
     c .at-level .ensures
-    ∙ ap (truthTo (c .before .before .before .calm .given .0 .0)) (ap levelled (c .before .open-level .ensures) ∙ levelled-levelOf (closed ρ none))
-    ∙ sym (compared-missing ρ (comparisonOf (s .c)) (s .a) (s .b) (sym (c .before .before .before .before .before .integers-of .ensures) ∙ c .before .before .before .calm .given .1))
+    ∙ ap (truthTo (c .before .before .before .within .given .0 .0)) (ap levelled (c .before .open-level .ensures) ∙ levelled-levelOf (atomic ρ none))
+    ∙ sym (compared-missing ρ (comparisonOf (s .c)) (s .a) (s .b) (sym (c .before .before .before .before .before .integers-of .ensures) ∙ c .before .before .before .within .given .1))
 
 pub compare-spec : {M : Type 1} → statement M
 compare-spec =
@@ -69,7 +69,7 @@ compare-spec =
     enum-known-x
     holds-requires
     truth-of-requires
-    enum-known-calm
+    enum-known-within
     open-level-requires
     at-level-requires
     returns

@@ -10,18 +10,18 @@ use Rattle.language.specs.Readings.{connective}
 use Rattle.operations.specs.declared.values.Value.the-variants.{Undefined}
 use Rattle.operations.specs.declared.values.Walked.{Walked}
 use Rattle.reading.specs.Readings.{meant}
-use Rattle.operations.specs.Values.{truthOf, ofCalm, truthTo}
+use Rattle.operations.specs.Values.{truthOf, ofWalk, truthTo}
 use Rattle.operations.specs.Truths.{connectiveOf, levelOf, levelled, connected}
 use Rattle.operations.proofs.Levels.{levelled-levelOf}
 use Rattle.operations.proofs.truths.connect.Statement.{statement}
 use Rattle.operations.proofs.truths.connect.Tie as tie
 
 module _ (ρ : readings.Reading) (c : syntax.Connective) (a b : Walked) where
-  calmly : {l : ℕ} → a .calm ≡ true → l ≡ levelOf (connective ρ c (truthOf (a .value)) (truthOf (b .value))) → truthTo (b .calm) (levelled l) ≡ connected ρ c a b
+  first-stays : {l : ℕ} → a .within ≡ true → l ≡ levelOf (connective ρ c (truthOf (a .value)) (truthOf (b .value))) → truthTo (b .within) (levelled l) ≡ connected ρ c a b
   unfolding connected
-  calmly e h = rw e (ap (truthTo (b .calm)) (ap levelled h ∙ levelled-levelOf (connective ρ c (truthOf (a .value)) (truthOf (b .value)))))
+  first-stays e h = rw e (ap (truthTo (b .within)) (ap levelled h ∙ levelled-levelOf (connective ρ c (truthOf (a .value)) (truthOf (b .value)))))
 
-  uneasily : a .calm ≡ false → ofCalm false Undefined ≡ connected ρ c a b
+  uneasily : a .within ≡ false → ofWalk false Undefined ≡ connected ρ c a b
   unfolding connected truthTo
   uneasily e = rw e
 
@@ -44,7 +44,7 @@ returns : tie.Need-returns
 returns c =
     let s = c .before .before .before .before .before .args in
     c .at-level .ensures
-    ∙ calmly (meant (s .reading)) (connectiveOf (s .c)) (s .a) (s .b) (c .before .if1 .taken)
+    ∙ first-stays (meant (s .reading)) (connectiveOf (s .c)) (s .a) (s .b) (c .before .if1 .taken)
     (c .before .before .joined-under .ensures (truthOf (s .a .value)) (truthOf (s .b .value)) (c .before .before .before .before .level .ensures) (c .before .before .before .level2 .ensures))
 
 returns-2 : tie.Need-returns-2

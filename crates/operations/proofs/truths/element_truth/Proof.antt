@@ -12,25 +12,25 @@ use mir.Syntax.{w32}
 use mir.Val.{SFits, ofZ}
 use Rattle.numbers.proofs.Widths.{eq-bits}
 use Rattle.language.specs.Readings as readings
-use Rattle.language.specs.Readings.{closed}
+use Rattle.language.specs.Readings.{atomic}
 use Rattle.language.specs.Meaning.{isOne}
-use Rattle.language.proofs.Agreement.{closed-some}
+use Rattle.language.proofs.Agreement.{atomic-some}
 use Rattle.operations.specs.declared.values.Value.the-variants.{Truth}
 use Rattle.reading.specs.Readings.{meant}
-use Rattle.operations.specs.Values.{integerOf, ofCalm, truthTo}
+use Rattle.operations.specs.Values.{integerOf, ofWalk, truthTo}
 use Rattle.operations.specs.Truths.{levelOf, levelled}
 use Rattle.operations.proofs.Levels.{levelled-levelOf}
 use Rattle.operations.proofs.truths.element_truth.Statement.{statement}
 use Rattle.operations.proofs.truths.element_truth.Tie as tie
 
-module _ (ρ : readings.Reading) (calm : Bool) {o : Option ℤ} where
-  found : (z : ℤ) → SFits w32 z → o ≡ some z → ofCalm calm (Truth (eqb (ofZ w32 z) 1)) ≡ truthTo calm (closed ρ (Option·map isOne o))
+module _ (ρ : readings.Reading) (within : Bool) {o : Option ℤ} where
+  found : (z : ℤ) → SFits w32 z → o ≡ some z → ofWalk within (Truth (eqb (ofZ w32 z) 1)) ≡ truthTo within (atomic ρ (Option·map isOne o))
   unfolding Option·map isOne truthTo
-  found z f e = rw (e, closed-some ρ (isOne z), eq-bits z (pos 1) f (record { sfits = omega arith }))
+  found z f e = rw (e, atomic-some ρ (isOne z), eq-bits z (pos 1) f (record { sfits = omega arith }))
 
-  not-found : {l : ℕ} → o ≡ none → l ≡ levelOf (closed ρ none) → truthTo calm (levelled l) ≡ truthTo calm (closed ρ (Option·map isOne o))
+  not-found : {l : ℕ} → o ≡ none → l ≡ levelOf (atomic ρ none) → truthTo within (levelled l) ≡ truthTo within (atomic ρ (Option·map isOne o))
   unfolding Option·map
-  not-found e h = rw e (ap (truthTo calm) (ap levelled h ∙ levelled-levelOf (closed ρ none)))
+  not-found e h = rw e (ap (truthTo within) (ap levelled h ∙ levelled-levelOf (atomic ρ none)))
 
 enum-known-element : tie.Need-enum-known-element
 enum-known-element c = search needs
@@ -61,17 +61,17 @@ returns c =
     let s = c .before .before .before .before .args in
     let z = c .before .before .element .given .0 .0 in
     let f : SFits w32 z = search needs in
-    c .truth-of .ensures ∙ found (meant (s .reading)) (s .calm) z f (ap integerOf (c .before .before .element .given .1))
+    c .truth-of .ensures ∙ found (meant (s .reading)) (s .within) z f (ap integerOf (c .before .before .element .given .1))
 
 returns-2 : tie.Need-returns-2
 returns-2 c =
     let s = c .before .before .before .before .args in
-    c .at-level .ensures ∙ not-found (meant (s .reading)) (s .calm) (ap integerOf (c .before .before .enum-told .given .1)) (c .before .open-level .ensures)
+    c .at-level .ensures ∙ not-found (meant (s .reading)) (s .within) (ap integerOf (c .before .before .enum-told .given .1)) (c .before .open-level .ensures)
 
 returns-3 : tie.Need-returns-3
 returns-3 c =
     let s = c .before .before .before .before .args in
-    c .at-level2 .ensures ∙ not-found (meant (s .reading)) (s .calm) (ap integerOf (c .before .before .enum-told2 .given .1)) (c .before .open-level2 .ensures)
+    c .at-level2 .ensures ∙ not-found (meant (s .reading)) (s .within) (ap integerOf (c .before .before .enum-told2 .given .1)) (c .before .open-level2 .ensures)
 
 pub element-truth-spec : {M : Type 1} → statement M
 element-truth-spec =

@@ -11,10 +11,10 @@ use Rattle.operations.proofs.Levels.{levelled-levelOf}
 use Rattle.operations.proofs.truths.negation.Statement.{statement}
 use Rattle.operations.proofs.truths.negation.Tie as tie
 
-turned : (a : Walked) {l m : ℕ} → l ≡ levelOf (truthOf (a .value)) → m ≡ levelOf (readings.opposite (levelled l)) → truthTo (a .calm) (levelled m) ≡ opposed a
+turned : (a : Walked) {l m : ℕ} → l ≡ levelOf (truthOf (a .value)) → m ≡ levelOf (readings.opposite (levelled l)) → truthTo (a .within) (levelled m) ≡ opposed a
 unfolding opposed
 turned a {l} p h =
-    ap (truthTo (a .calm))
+    ap (truthTo (a .within))
     (ap levelled h ∙ levelled-levelOf (readings.opposite (levelled l)) ∙ ap readings.opposite (ap levelled p ∙ levelled-levelOf (truthOf (a .value))))
 
 level-requires : tie.Need-level-requires

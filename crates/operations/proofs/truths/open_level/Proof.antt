@@ -3,7 +3,7 @@
 use borrow.Author.Needs.{needs}
 use mathlib.Core.Path.{_≡_}
 use mathlib.Core.Option.{none}
-use Rattle.language.specs.Readings.{closed}
+use Rattle.language.specs.Readings.{atomic}
 use Rattle.reading.specs.declared.Reading.{Reading}
 use Rattle.reading.specs.declared.Reading.the-variants.{Strict, Kleene, Relational}
 use Rattle.reading.specs.Readings.{meant}
@@ -11,16 +11,16 @@ use Rattle.operations.specs.Truths.{levelOf}
 use Rattle.operations.proofs.truths.open_level.Statement.{statement}
 use Rattle.operations.proofs.truths.open_level.Tie as tie
 
-under-strict : {ρ : Reading} → ρ ≡ Strict → 1 ≡ levelOf (closed (meant ρ) none)
-unfolding closed
+under-strict : {ρ : Reading} → ρ ≡ Strict → 1 ≡ levelOf (atomic (meant ρ) none)
+unfolding atomic
 under-strict e = rw e
 
-under-kleene : {ρ : Reading} → ρ ≡ Kleene → 1 ≡ levelOf (closed (meant ρ) none)
-unfolding closed
+under-kleene : {ρ : Reading} → ρ ≡ Kleene → 1 ≡ levelOf (atomic (meant ρ) none)
+unfolding atomic
 under-kleene e = rw e
 
-under-relational : {ρ : Reading} → ρ ≡ Relational → 0 ≡ levelOf (closed (meant ρ) none)
-unfolding closed
+under-relational : {ρ : Reading} → ρ ≡ Relational → 0 ≡ levelOf (atomic (meant ρ) none)
+unfolding atomic
 under-relational e = rw e
 
 enum-told : tie.Need-enum-told

@@ -11,7 +11,7 @@ use mir.Facts.{toZ-ofZ}
 use borrow.Author.Needs.{needs}
 use Rattle.numbers.specs.Whole.{withinLimit}
 use Rattle.numbers.proofs.Widths.{within, not-above, not-below, limit-fits}
-use Rattle.language.specs.Meaning.{calmValue}
+use Rattle.language.specs.Meaning.{valueWithin}
 use Rattle.operations.specs.declared.values.Value.the-variants.{Integer, Undefined}
 use Rattle.operations.specs.declared.values.Walked.{Walked}
 use Rattle.operations.specs.Values.{limitedTo}
@@ -23,19 +23,19 @@ passed : (x : ℤ) → SFits w64 x → leZ (negsuc 1_999_999_999) (toZ w64 (ofZ 
     withinLimit x ≡ true
 passed x f l h = within x (rw (toZ-ofZ f) at l) (rw (toZ-ofZ f) at h)
 
-kept : (calm : Bool) (x : ℤ) → calm ≡ true → SFits w64 x → withinLimit x ≡ true →
-    _≡_ {A = Walked} (record { value = Integer (toZ w32 (ofZ w32 (toZ w64 (ofZ w64 x)))); calm = true }) (limitedTo calm (some x))
-unfolding limitedTo calmValue
-kept calm x e f w = rw (toZ-ofZ f, toZ-ofZ (limit-fits x w), e, w)
+kept : (within : Bool) (x : ℤ) → within ≡ true → SFits w64 x → withinLimit x ≡ true →
+    _≡_ {A = Walked} (record { value = Integer (toZ w32 (ofZ w32 (toZ w64 (ofZ w64 x)))); within = true }) (limitedTo within (some x))
+unfolding limitedTo valueWithin
+kept within x e f w = rw (toZ-ofZ f, toZ-ofZ (limit-fits x w), e, w)
 
-dropped : (calm : Bool) (x : ℤ) → withinLimit x ≡ false → _≡_ {A = Walked} (record { value = Undefined; calm = false }) (limitedTo calm (some x))
-unfolding limitedTo calmValue
+dropped : (within : Bool) (x : ℤ) → withinLimit x ≡ false → _≡_ {A = Walked} (record { value = Undefined; within = false }) (limitedTo within (some x))
+unfolding limitedTo valueWithin
 dropped true x w = rw w
 dropped false x w = refl
 
-uneasy : (calm : Bool) (x : ℤ) → calm ≡ false → _≡_ {A = Walked} (record { value = Undefined; calm = false }) (limitedTo calm (some x))
+uneasy : (within : Bool) (x : ℤ) → within ≡ false → _≡_ {A = Walked} (record { value = Undefined; within = false }) (limitedTo within (some x))
 unfolding limitedTo
-uneasy calm x e = rw e
+uneasy within x e = rw e
 
 sub-if2 : tie.Need-sub-if2
 sub-if2 c = search needs
@@ -48,21 +48,21 @@ cast-t7 c =
 returns : tie.Need-returns
 returns c =
     let s = c .before .before .before in
-    kept (s .args .calm) (s .args .x) (c .before .before .if1 .taken) (s .fits .x)
+    kept (s .args .within) (s .args .x) (c .before .before .if1 .taken) (s .fits .x)
     (passed (s .args .x) (s .fits .x) (c .before .if2 .taken) (c .if3 .taken))
 
 returns-2 : tie.Need-returns-2
 returns-2 c =
     let s = c .before .before .before in
-    dropped (s .args .calm) (s .args .x) (not-above (s .args .x) (rw (toZ-ofZ (s .fits .x)) at (c .if3 .left)))
+    dropped (s .args .within) (s .args .x) (not-above (s .args .x) (rw (toZ-ofZ (s .fits .x)) at (c .if3 .left)))
 
 returns-3 : tie.Need-returns-3
 returns-3 c =
     let s = c .before .before in
-    dropped (s .args .calm) (s .args .x) (not-below (s .args .x) (rw (toZ-ofZ (s .fits .x)) at (c .if2 .left)))
+    dropped (s .args .within) (s .args .x) (not-below (s .args .x) (rw (toZ-ofZ (s .fits .x)) at (c .if2 .left)))
 
 returns-4 : tie.Need-returns-4
-returns-4 c = uneasy (c .before .args .calm) (c .before .args .x) (c .if1 .left)
+returns-4 c = uneasy (c .before .args .within) (c .before .args .x) (c .if1 .left)
 
 pub limited-spec : {M : Type 1} → statement M
 limited-spec = tie.close (tie.spec sub-if2 cast-t7 returns returns-2 returns-3 returns-4)

@@ -13,7 +13,7 @@ use Rattle.numbers.specs.Whole.{withinLimit}
 use Rattle.language.specs.Syntax.{boolean, integer, Declarations}
 use Rattle.language.specs.Readings.{Reading, relational}
 use Rattle.language.specs.Tables.{Row, Tree, whole, bool, treeI, treeB, trees}
-use Rattle.language.specs.Meaning.{Assignment, Setting, valueI, valueB, calmI, calmB}
+use Rattle.language.specs.Meaning.{Assignment, Setting, valueI, valueB, metWithinI, metWithinB}
 use Rattle.rules.specs.Bounds.{interval}
 use Rattle.rules.specs.Soundness.{Within, All, IsNode}
 use Rattle.rules.specs.Writing.{translateRows}
@@ -40,8 +40,8 @@ HasValue ρ Γ α σ (bool e) = (b : Bool) × (valueB ρ Γ α e σ ≡ some b)
 
 -- evaluating a node meets no number beyond the limit
 abbrev pub StaysWithin : Reading → Declarations → Assignment → Setting → Tree → Type 0
-StaysWithin ρ Γ α σ (whole e) = T (calmI ρ Γ α e σ)
-StaysWithin ρ Γ α σ (bool e) = T (calmB ρ Γ α e σ)
+StaysWithin ρ Γ α σ (whole e) = T (metWithinI ρ Γ α e σ)
+StaysWithin ρ Γ α σ (bool e) = T (metWithinB ρ Γ α e σ)
 
 -- ---- the new table
 
@@ -76,7 +76,7 @@ module _ (ρ ρ′ : Reading) (Γ : Declarations) (α : Assignment) (σ : Settin
 
   -- Every node of the new table has a value, auxiliary ones included, reached or not, and the companions of every old node tell what that
   -- node is.
-  pub record Demand : Type 0 where
+  pub record TotalRows : Type 0 where
     pub values : All (HasValue ρ′ Γ α σ) (trees (newRows ρ Γ rows))
     pub numbers : (k : ℕ) → IsNode rows integer k → NumberTold k
     pub truths : (k : ℕ) → IsNode rows boolean k → TruthTold k

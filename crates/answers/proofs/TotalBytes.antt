@@ -14,23 +14,22 @@ use lib.Dec.{T, eqb, ltb}
 use lib.IntN.{pos}
 use lib.ListN.{length, getD, length-map}
 use lib.Signed.{leZ-yes}
-use Rattle.numbers.specs.Limits.{mostBytes}
 use Rattle.numbers.specs.Whole.{between}
 use Rattle.numbers.proofs.Tests.{&&-intro, &&-fst, &&-snd, T→≡true, Tnot→≡false}
 use Rattle.language.specs.Syntax.{BExp, Declarations}
 use Rattle.language.specs.Readings.{Reading}
 use Rattle.language.specs.Tables.{Tree, freeB, treeB, trees}
-use Rattle.language.specs.Meaning.{Assignment, slotAt, valueB, calmB}
-use Rattle.language.proofs.FreeSlots.{AgreeOn, inB, valueB-agree, calmB-agree}
+use Rattle.language.specs.Meaning.{Assignment, slotAt, valueB, metWithinB}
+use Rattle.language.proofs.FreeSlots.{AgreeOn, inB, valueB-agree, metWithinB-agree}
 use Rattle.rules.specs.Bounds.{variableInterval}
-use Rattle.rules.specs.Demand.{firstOf, newRows, isTrue}
+use Rattle.rules.specs.TotalRows.{firstOf, newRows, isTrue}
 use Rattle.rules.specs.Soundness.{Fits, All}
-use Rattle.rules.proofs.CalmCompanions.{calm-P}
-use Rattle.rules.proofs.Demand.{translation-meets-demand as rows-meet-demand}
+use Rattle.rules.proofs.MetWithinCompanions.{within-P}
+use Rattle.rules.proofs.TotalRows.{rows-total}
 use Rattle.rules.proofs.LowEnds.{lowSetting, lowSetting-within}
 use Rattle.answers.specs.Sections.{variablesAt, declarations, rows, nodeTrees, constraints}
 use Rattle.answers.specs.Check.{checkFault}
-use Rattle.answers.specs.Answers.{unset, assignmentFault, valueOfConstraint, allCalm, boundsFault, roomFault, translated, translation}
+use Rattle.answers.specs.Answers.{unset, assignmentFault, valueOfConstraint, allMetWithin, translated, translation}
 use Rattle.answers.proofs.Faults.{none-unless, none-cond-fault, none-firstFault}
 use Rattle.answers.proofs.Listed.{All-at, All-mapped}
 use Rattle.answers.proofs.Declared.{length-slots}
@@ -38,16 +37,16 @@ use Rattle.numbers.proofs.Lists.{getD-map}
 use Rattle.answers.proofs.NewConstraints.{constraint-node, constraint-free, P-free}
 use Rattle.answers.proofs.NewPassed.{checkFault-new}
 use Rattle.answers.proofs.NewTable.{declarations-new, rows-new, constraints-new}
-use Rattle.answers.proofs.Translatable.{Translatable, none→Translatable}
+use Rattle.answers.proofs.Translatable.{Translatable}
 
 -- What is demanded of the translation of bs under ρ, evaluated under ρ′ at α.
-pub record BytesDemand (bs : List ℕ) (ρ ρ′ : Reading) (α : Assignment) : Type 0 where
+pub record TotalBytes (bs : List ℕ) (ρ ρ′ : Reading) (α : Assignment) : Type 0 where
   -- "it is never refused by the check"
   pub checked : checkFault (translation bs ρ) ≡ none
   -- the same assignments are within the domains
   pub assignment : assignmentFault (translation bs ρ) α ≡ none
   -- evaluation meets no number beyond the limit
-  pub calm : allCalm (translation bs ρ) ρ′ α (constraints (translation bs ρ)) ≡ true
+  pub within : allMetWithin (translation bs ρ) ρ′ α (constraints (translation bs ρ)) ≡ true
   -- there are as many constraints, each in its place
   pub as-many : length (constraints (translation bs ρ)) ≡ length (constraints bs)
   pub told : (i : ℕ) → i < length (constraints bs)
@@ -79,11 +78,11 @@ assignmentFault→Fits bs α a =
 -- ---- the demand
 
 -- No number beyond the limit is met in any constraint of a list if none is met in each.
-allCalm-All : (bs : List ℕ) (ρ : Reading) (α : Assignment) (ks : List ℕ)
-    → All (λ k. T (calmB ρ (declarations bs) α (treeB (nodeTrees bs) k) unset)) ks → T (allCalm bs ρ α ks)
-unfolding allCalm
-allCalm-All bs ρ α [] h = tt
-allCalm-All bs ρ α (k ∷ ks) h = &&-intro (calmB ρ (declarations bs) α (treeB (nodeTrees bs) k) unset) (allCalm bs ρ α ks) (h .0) (allCalm-All bs ρ α ks (h .1))
+allMetWithin-All : (bs : List ℕ) (ρ : Reading) (α : Assignment) (ks : List ℕ)
+    → All (λ k. T (metWithinB ρ (declarations bs) α (treeB (nodeTrees bs) k) unset)) ks → T (allMetWithin bs ρ α ks)
+unfolding allMetWithin
+allMetWithin-All bs ρ α [] h = tt
+allMetWithin-All bs ρ α (k ∷ ks) h = &&-intro (metWithinB ρ (declarations bs) α (treeB (nodeTrees bs) k) unset) (allMetWithin bs ρ α ks) (h .0) (allMetWithin-All bs ρ α ks (h .1))
 
 module _ (bs : List ℕ) (ρ : Reading) where
   -- the declarations of both tables
@@ -120,39 +119,34 @@ module _ (bs : List ℕ) (ρ : Reading) where
       P-told : valueB ρ′ Γ α P unset ≡ some (isTrue (valueB ρ Γ α e unset))
       unfolding nodeTrees
       P-told =
-          let met = rows-meet-demand ρ Γ (rows bs) (h .passed .well-formed) (h .bounded) α (lowSetting Γ) fits ρ′ in
+          let met = rows-total ρ Γ (rows bs) (h .passed .well-formed) (h .bounded) α (lowSetting Γ) fits ρ′ in
           let e-agrees : AgreeOn (inB e) unset (lowSetting Γ) = closed-agree Γ e (λ t b. constraint-free bs (h .passed) i l t (rw length-slots at b)) in
           rw (valueB-agree ρ′ Γ α P unset (lowSetting Γ) P-agrees, valueB-agree ρ Γ α e unset (lowSetting Γ) e-agrees)
           (met .truths (getD (constraints bs) i 0) (constraint-node bs (h .passed) i l) .P-is)
 
       -- A walk over it meets no number beyond the limit.
-      P-calm : T (calmB ρ′ Γ α P unset)
+      P-within : T (metWithinB ρ′ Γ α P unset)
       unfolding nodeTrees
-      P-calm =
-          rw (calmB-agree ρ′ Γ α P unset (lowSetting Γ) P-agrees)
-          (calm-P ρ ρ′ Γ (rows bs) (h .passed .well-formed) (h .bounded) α (lowSetting Γ) fits (getD (constraints bs) i 0) (constraint-node bs (h .passed) i l))
+      P-within =
+          rw (metWithinB-agree ρ′ Γ α P unset (lowSetting Γ) P-agrees)
+          (within-P ρ ρ′ Γ (rows bs) (h .passed .well-formed) (h .bounded) α (lowSetting Γ) fits (getD (constraints bs) i 0) (constraint-node bs (h .passed) i l))
 
     -- The translation meets the demand.
-    pub translation-meets-demand : (ρ′ : Reading) (α : Assignment) → assignmentFault bs α ≡ none → BytesDemand bs ρ ρ′ α
+    pub bytes-total : (ρ′ : Reading) (α : Assignment) → assignmentFault bs α ≡ none → TotalBytes bs ρ ρ′ α
     unfolding valueOfConstraint translated nodeTrees
-    translation-meets-demand ρ′ α a =
+    bytes-total ρ′ α a =
         let fits : Fits Γ α (lowSetting Γ) = assignmentFault→Fits bs α a in
         let first : ℕ → ℕ = firstOf ρ Γ (rows bs) in
-        let calm-each : All (λ k. T (calmB ρ′ Γ α (treeB newTrees k) unset)) (map first (constraints bs)) =
-        All-mapped (λ k. T (calmB ρ′ Γ α (treeB newTrees k) unset)) first (constraints bs)
-        (All-at (λ k. T (calmB ρ′ Γ α (treeB newTrees (first k)) unset)) (constraints bs) 0
-        (λ i l. P-calm i l ρ′ α fits)) in
+        let within-each : All (λ k. T (metWithinB ρ′ Γ α (treeB newTrees k) unset)) (map first (constraints bs)) =
+        All-mapped (λ k. T (metWithinB ρ′ Γ α (treeB newTrees k) unset)) first (constraints bs)
+        (All-at (λ k. T (metWithinB ρ′ Γ α (treeB newTrees (first k)) unset)) (constraints bs) 0
+        (λ i l. P-within i l ρ′ α fits)) in
         record {
           checked = checkFault-new bs ρ h;
           assignment = assignmentFault-new α ∙ a;
-          calm = T→≡true _ (allCalm-All new ρ′ α (constraints new) (rw (declarations-new bs ρ h, rows-new bs ρ h, constraints-new bs ρ h) calm-each));
+          within = T→≡true _ (allMetWithin-All new ρ′ α (constraints new) (rw (declarations-new bs ρ h, rows-new bs ρ h, constraints-new bs ρ h) within-each));
           as-many = ap length (constraints-new bs ρ h) ∙ length-map (constraints bs) first;
           told = λ i l.
               rw (declarations-new bs ρ h, rows-new bs ρ h, constraints-new bs ρ h, getD-map first (constraints bs) i 0 0 l)
               (P-told i l ρ′ α fits);
         }
-
--- Demand 3 on bytes, in the words of the answers: a table that is not refused, and an assignment that is not refused for it.
-pub demand-3 : (bs : List ℕ) (ρ ρ′ : Reading) (α : Assignment) → checkFault bs ≡ none → boundsFault bs ≡ none → roomFault bs ρ mostBytes ≡ none
-    → assignmentFault bs α ≡ none → BytesDemand bs ρ ρ′ α
-demand-3 bs ρ ρ′ α c b r a = translation-meets-demand bs ρ (none→Translatable bs ρ mostBytes c b r) ρ′ α a

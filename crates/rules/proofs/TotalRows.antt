@@ -7,9 +7,9 @@ use Rattle.language.specs.Syntax.{boolean, integer, Declarations}
 use Rattle.language.specs.Readings.{Reading}
 use Rattle.language.specs.Tables.{Row, Tree, whole, bool, treeI, treeB, trees}
 use Rattle.language.specs.Meaning.{Assignment, Setting}
-use Rattle.rules.specs.Demand.{HasValue, StaysWithin, newRows, NumberTold, TruthTold, Demand}
+use Rattle.rules.specs.TotalRows.{HasValue, StaysWithin, newRows, NumberTold, TruthTold, TotalRows}
 use Rattle.rules.specs.Soundness.{Fits, All, Declared, IsNode, WellFormed, Bounded}
-use Rattle.rules.proofs.Calm.{calm-I, calm-B}
+use Rattle.rules.proofs.MetWithin.{within-I, within-B}
 use Rattle.rules.proofs.Claims.{SoundTree, TotalI, TotalB, TotalTree}
 use Rattle.rules.proofs.Every.{All-map}
 use Rattle.rules.proofs.Meaning.{means-I, means-B}
@@ -35,8 +35,8 @@ SoundTree→CompanionsTotal ρ Γ α d (bool e) s = total-B ρ Γ α d e s
 SoundTree→StaysWithin : (ρ : Reading) (Γ : Declarations) (α : Assignment) → Declared Γ → (σ : Setting) → Fits Γ α σ → (t : Tree)
     → SoundTree Γ t → StaysWithin ρ Γ α σ t
 unfolding SoundTree
-SoundTree→StaysWithin ρ Γ α d σ fits (whole e) s = calm-I ρ Γ α d e s σ fits
-SoundTree→StaysWithin ρ Γ α d σ fits (bool e) s = calm-B ρ Γ α d e s σ fits
+SoundTree→StaysWithin ρ Γ α d σ fits (whole e) s = within-I ρ Γ α d e s σ fits
+SoundTree→StaysWithin ρ Γ α d σ fits (bool e) s = within-B ρ Γ α d e s σ fits
 
 module _ (ρ : Reading) (Γ : Declarations) (rows : List Row) (wf : WellFormed Γ rows) (bounded : Bounded Γ (trees rows))
     (α : Assignment) (σ : Setting) (fits : Fits Γ α σ) where
@@ -66,5 +66,5 @@ module _ (ρ : Reading) (Γ : Declarations) (rows : List Row) (wf : WellFormed �
         record { P-is = rw (c .P-tree) (m .P-is); N-is = rw (c .N-tree) (m .N-is); relational-defined = m .relational-defined }
 
     -- The translation of a well formed table within its bounds meets the demand, at every assignment within the domains.
-    pub translation-meets-demand : Demand ρ ρ′ Γ α σ rows
-    translation-meets-demand = record { values = newRows-values; numbers = newRows-numbers; truths = newRows-truths }
+    pub rows-total : TotalRows ρ ρ′ Γ α σ rows
+    rows-total = record { values = newRows-values; numbers = newRows-numbers; truths = newRows-truths }
