@@ -7,8 +7,11 @@ pub mod Elements
 pub mod Faults
 pub mod Fields
 pub mod KindRows
+pub mod KindTrials
 pub mod KindsFit
+pub mod LimitTrials
 pub mod Listed
+pub mod ListingTrials
 pub mod NewArrays
 pub mod NewConstraints
 pub mod NewPassed
@@ -32,4 +35,5 @@ pub mod SignedWords
 pub mod SoundSections
 pub mod TotalBytes
 pub mod Translatable
+pub mod TrialRecords
 pub mod Trials

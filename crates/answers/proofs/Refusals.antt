@@ -4,20 +4,15 @@ use mathlib.Core.Path.{_≡_, refl}
 use Prim.Native.Nat.{ℕ}
 use mathlib.Core.Bool.{Bool, true, false}
 use mathlib.Core.List.{List, [], _∷_, _++_, map}
+use mathlib.Core.Option.{none, some}
 use lib.IntN.{ℤ, pos, negsuc}
 use lib.ListN.{replicate}
-use Rattle.table.specs.Records.{Mark, HD, VR, SL, AR, EL, ND, CN, firstLetter, secondLetter, wordBytes, bitsOf}
+use Rattle.table.specs.Records.{HD, VR, SL, AR, EL, ND, CN}
+use Rattle.answers.specs.Check.{variableFault, slotFault, arrayFault}
 use Rattle.answers.specs.Answers.{Answer}
 use Rattle.answers.proofs.Computed.{checked, evaluated, translated}
-
--- a record with its aux, and one with aux 0
-marked : Mark → ℕ → ℕ → ℤ → ℤ → List ℕ
-unfolding firstLetter secondLetter wordBytes bitsOf
-marked m kind aux x y = firstLetter m ∷ secondLetter m ∷ kind ∷ aux ∷ (wordBytes (bitsOf x) ++ wordBytes (bitsOf y))
-
-at : Mark → ℕ → ℤ → ℤ → List ℕ
-unfolding marked
-at m kind x y = marked m kind 0 x y
+use Rattle.answers.proofs.Trials.{p4}
+use Rattle.answers.proofs.TrialRecords.{with-aux, at, headed}
 
 -- the answer of a refusal, and of a sound table
 abbrev refusal : ℕ → ℕ → Answer
@@ -53,19 +48,19 @@ misplaced =
     -- no HD
     refused (at VR 1 (pos 1) (pos 0)) 2 0
     -- a second HD
-    ∷ refused (at HD 1 (pos 2) (pos 0) ++ (at HD 1 (pos 2) (pos 0))) 2 1
+    ∷ refused (headed (at HD 1 (pos 2) (pos 0) ∷ [])) 2 1
     -- an EL that nothing asks for
-    ∷ refused (at HD 1 (pos 2) (pos 0) ++ (at EL 0 (pos 0) (pos 0))) 2 1
+    ∷ refused (headed (at EL 0 (pos 0) (pos 0) ∷ [])) 2 1
     -- an EL missing at the end
-    ∷ refused (at HD 1 (pos 2) (pos 0) ++ (at AR 1 (pos 0) (pos 1))) 2 2
+    ∷ refused (headed (at AR 1 (pos 0) (pos 1) ∷ [])) 2 2
     -- another mark while an EL is due
-    ∷ refused (at HD 1 (pos 3) (pos 0) ++ (at AR 1 (pos 0) (pos 1) ++ (at ND 1 (pos 0) (pos 0)))) 2 2
+    ∷ refused (headed (at AR 1 (pos 0) (pos 1) ∷ at ND 1 (pos 0) (pos 0) ∷ [])) 2 2
     -- one EL too many
-    ∷ refused (at HD 1 (pos 4) (pos 0) ++ (at AR 1 (pos 0) (pos 1) ++ (at EL 0 (pos 0) (pos 0) ++ (at EL 0 (pos 0) (pos 0))))) 2 3
+    ∷ refused (headed (at AR 1 (pos 0) (pos 1) ∷ at EL 0 (pos 0) (pos 0) ∷ at EL 0 (pos 0) (pos 0) ∷ [])) 2 3
     -- a VR behind an ND
-    ∷ refused (at HD 1 (pos 3) (pos 0) ++ (at ND 1 (pos 0) (pos 0) ++ (at VR 1 (pos 0) (pos 1)))) 2 2
+    ∷ refused (headed (at ND 1 (pos 0) (pos 0) ∷ at VR 1 (pos 0) (pos 1) ∷ [])) 2 2
     -- an ND behind a CN
-    ∷ refused (at HD 1 (pos 4) (pos 0) ++ (at ND 2 (pos 1) (pos 0) ++ (at CN 0 (pos 0) (pos 0) ++ (at ND 2 (pos 1) (pos 0))))) 2 3
+    ∷ refused (headed (at ND 2 (pos 1) (pos 0) ∷ at CN 0 (pos 0) (pos 0) ∷ at ND 2 (pos 1) (pos 0) ∷ [])) 2 3
     ∷ []
 
 -- 3: "kind, unused field or number not allowed, too many of a mark, HD's count wrong"
@@ -73,121 +68,147 @@ disallowed : List Checked
 disallowed =
     -- HD of another kind
     refused (at HD 2 (pos 1) (pos 0)) 3 0
-    -- HD with aux
-    ∷ refused (marked HD 1 1 (pos 1) (pos 0)) 3 0
     -- HD's count wrong
     ∷ refused (at HD 1 (pos 2) (pos 0)) 3 0
-    -- HD's y
-    ∷ refused (at HD 1 (pos 1) (pos 1)) 3 0
     -- VR of no kind
-    ∷ refused (at HD 1 (pos 2) (pos 0) ++ (at VR 2 (pos 0) (pos 1))) 3 1
+    ∷ refused (headed (at VR 2 (pos 0) (pos 1) ∷ [])) 3 1
     -- a bool VR that is not 0..1
-    ∷ refused (at HD 1 (pos 2) (pos 0) ++ (at VR 0 (pos 0) (pos 2))) 3 1
+    ∷ refused (headed (at VR 0 (pos 0) (pos 2) ∷ [])) 3 1
     -- an integer VR with x > y
-    ∷ refused (at HD 1 (pos 2) (pos 0) ++ (at VR 1 (pos 1) (pos 0))) 3 1
+    ∷ refused (headed (at VR 1 (pos 1) (pos 0) ∷ [])) 3 1
     -- a slot end too far, though the range is empty
-    ∷ refused (at HD 1 (pos 2) (pos 0) ++ (at SL 0 (pos 1000000001) (pos 0))) 3 1
+    ∷ refused (headed (at SL 0 (pos 1000000001) (pos 0) ∷ [])) 3 1
     -- the other end
-    ∷ refused (at HD 1 (pos 2) (pos 0) ++ (at SL 0 (pos 0) (negsuc 1000000000))) 3 1
+    ∷ refused (headed (at SL 0 (pos 0) (negsuc 1000000000) ∷ [])) 3 1
     -- 10,001 values
-    ∷ refused (at HD 1 (pos 2) (pos 0) ++ (at SL 0 (pos 1) (pos 10001))) 3 1
+    ∷ refused (headed (at SL 0 (pos 1) (pos 10001) ∷ [])) 3 1
     -- SL of no kind
-    ∷ refused (at HD 1 (pos 2) (pos 0) ++ (at SL 1 (pos 1) (pos 2))) 3 1
+    ∷ refused (headed (at SL 1 (pos 1) (pos 2) ∷ [])) 3 1
     -- an array with no element, whatever follows
-    ∷ refused (at HD 1 (pos 3) (pos 0) ++ (at AR 1 (pos 0) (pos 0) ++ (at ND 99 (pos 0) (pos 0)))) 3 1
+    ∷ refused (headed (at AR 1 (pos 0) (pos 0) ∷ at ND 99 (pos 0) (pos 0) ∷ [])) 3 1
     -- 1,025 elements
-    ∷ refused (at HD 1 (pos 2) (pos 0) ++ (at AR 1 (pos 0) (pos 1025))) 3 1
+    ∷ refused (headed (at AR 1 (pos 0) (pos 1025) ∷ [])) 3 1
+    -- 1,024 elements, of which the first is missing
+    ∷ refused (headed (at AR 1 (pos 0) (pos 1024) ∷ [])) 2 2
     -- far more elements than records
-    ∷ refused (at HD 1 (pos 2) (pos 0) ++ (at AR 1 (pos 0) (pos 2147483647))) 3 1
-    -- a first index too far
-    ∷ refused (at HD 1 (pos 3) (pos 0) ++ (at AR 1 (negsuc 1000000000) (pos 1) ++ (at EL 0 (pos 0) (pos 0)))) 3 1
+    ∷ refused (headed (at AR 1 (pos 0) (pos 2147483647) ∷ [])) 3 1
+    -- a first index too far below, and above
+    ∷ refused (headed (at AR 1 (negsuc 1000000000) (pos 1) ∷ at EL 0 (pos 0) (pos 0) ∷ [])) 3 1
+    ∷ refused (headed (at AR 1 (pos 1000000001) (pos 1) ∷ at EL 0 (pos 0) (pos 0) ∷ [])) 3 1
     -- 2 in a bool array
-    ∷ refused (at HD 1 (pos 3) (pos 0) ++ (at AR 0 (pos 0) (pos 1) ++ (at EL 0 (pos 2) (pos 0)))) 3 2
+    ∷ refused (headed (at AR 0 (pos 0) (pos 1) ∷ at EL 0 (pos 2) (pos 0) ∷ [])) 3 2
     -- EL of no kind
-    ∷ refused (at HD 1 (pos 3) (pos 0) ++ (at AR 1 (pos 0) (pos 1) ++ (at EL 2 (pos 0) (pos 0)))) 3 2
-    -- EL's y
-    ∷ refused (at HD 1 (pos 3) (pos 0) ++ (at AR 1 (pos 0) (pos 1) ++ (at EL 0 (pos 0) (pos 1)))) 3 2
+    ∷ refused (headed (at AR 1 (pos 0) (pos 1) ∷ at EL 2 (pos 0) (pos 0) ∷ [])) 3 2
     -- kind 0
-    ∷ refused (at HD 1 (pos 2) (pos 0) ++ (at ND 0 (pos 0) (pos 0))) 3 1
+    ∷ refused (headed (at ND 0 (pos 0) (pos 0) ∷ [])) 3 1
     -- kind 18
-    ∷ refused (at HD 1 (pos 2) (pos 0) ++ (at ND 18 (pos 0) (pos 0))) 3 1
+    ∷ refused (headed (at ND 18 (pos 0) (pos 0) ∷ [])) 3 1
     -- kind 31
-    ∷ refused (at HD 1 (pos 2) (pos 0) ++ (at ND 31 (pos 0) (pos 0))) 3 1
+    ∷ refused (headed (at ND 31 (pos 0) (pos 0) ∷ [])) 3 1
     -- a truth constant 2
-    ∷ refused (at HD 1 (pos 2) (pos 0) ++ (at ND 2 (pos 2) (pos 0))) 3 1
-    -- ND's aux
-    ∷ refused (at HD 1 (pos 2) (pos 0) ++ (marked ND 1 1 (pos 0) (pos 0))) 3 1
-    -- y of a constant
-    ∷ refused (at HD 1 (pos 2) (pos 0) ++ (at ND 1 (pos 0) (pos 1))) 3 1
+    ∷ refused (headed (at ND 2 (pos 2) (pos 0) ∷ [])) 3 1
     -- 3 before 4: y of a negation, whose x names nothing
-    ∷ refused (at HD 1 (pos 3) (pos 0) ++ (at ND 1 (pos 0) (pos 0) ++ (at ND 11 (pos 5) (pos 1)))) 3 2
+    ∷ refused (headed (at ND 1 (pos 0) (pos 0) ∷ at ND 11 (pos 5) (pos 1) ∷ [])) 3 2
     -- CN of no kind
-    ∷ refused (at HD 1 (pos 3) (pos 0) ++ (at ND 2 (pos 1) (pos 0) ++ (at CN 1 (pos 0) (pos 0)))) 3 2
-    -- CN's y
-    ∷ refused (at HD 1 (pos 3) (pos 0) ++ (at ND 2 (pos 1) (pos 0) ++ (at CN 0 (pos 0) (pos 1)))) 3 2
+    ∷ refused (headed (at ND 2 (pos 1) (pos 0) ∷ at CN 1 (pos 0) (pos 0) ∷ [])) 3 2
     ∷ []
+
+-- 3: "aux (1 byte, always 0)", in each mark
+aux : List Checked
+aux =
+    refused (with-aux HD 1 1 (pos 1) (pos 0)) 3 0
+    ∷ refused (headed (with-aux VR 0 1 (pos 0) (pos 1) ∷ [])) 3 1
+    ∷ refused (headed (with-aux VR 1 1 (pos 0) (pos 1) ∷ [])) 3 1
+    ∷ refused (headed (with-aux SL 0 1 (pos 0) (pos 1) ∷ [])) 3 1
+    ∷ refused (headed (with-aux AR 0 1 (pos 0) (pos 1) ∷ at EL 0 (pos 0) (pos 0) ∷ [])) 3 1
+    ∷ refused (headed (at AR 1 (pos 0) (pos 1) ∷ with-aux EL 0 1 (pos 0) (pos 0) ∷ [])) 3 2
+    ∷ refused (headed (with-aux ND 1 1 (pos 0) (pos 0) ∷ [])) 3 1
+    ∷ refused (headed (with-aux ND 2 255 (pos 0) (pos 0) ∷ [])) 3 1
+    ∷ refused (headed (at ND 2 (pos 1) (pos 0) ∷ with-aux CN 0 1 (pos 0) (pos 0) ∷ [])) 3 2
+    ∷ []
+
+-- 3: "Fields not named below are 0": y of HD, EL, CN and of the kinds 1 to 5, 11, 14 and 24
+unused-fields : List Checked
+unused-fields =
+    refused (at HD 1 (pos 1) (pos 1)) 3 0
+    ∷ refused (headed (at AR 1 (pos 0) (pos 1) ∷ at EL 0 (pos 0) (pos 1) ∷ [])) 3 2
+    ∷ refused (headed (at VR 1 (pos 0) (pos 1) ∷ at AR 1 (pos 0) (pos 1) ∷ at EL 1 (pos 0) (negsuc 0) ∷ [])) 3 3
+    ∷ refused (headed (at ND 2 (pos 1) (pos 0) ∷ at CN 0 (pos 0) (pos 1) ∷ [])) 3 2
+    ∷ refused (headed (at ND 1 (pos 0) (pos 1) ∷ [])) 3 1
+    ∷ refused (headed (at ND 2 (pos 0) (negsuc 0) ∷ [])) 3 1
+    ∷ refused (headed (at VR 1 (pos 0) (pos 1) ∷ at ND 3 (pos 0) (pos 1) ∷ [])) 3 2
+    ∷ refused (headed (at VR 0 (pos 0) (pos 1) ∷ at ND 4 (pos 0) (pos 1) ∷ [])) 3 2
+    ∷ refused (headed (at SL 0 (pos 0) (pos 1) ∷ at ND 5 (pos 0) (pos 1) ∷ [])) 3 2
+    ∷ refused (headed (at ND 1 (pos 0) (pos 0) ∷ at ND 11 (pos 0) (pos 1) ∷ [])) 3 2
+    ∷ refused (headed (at ND 2 (pos 0) (pos 0) ∷ at ND 14 (pos 0) (pos 1) ∷ [])) 3 2
+    ∷ refused (headed (at ND 2 (pos 0) (pos 0) ∷ at ND 24 (pos 0) (pos 1) ∷ [])) 3 2
+    ∷ []
+
+-- 3: "too many of a mark": the 17th SL is the first record at fault, so 16 are allowed
+too-many : List Checked
+too-many = refused (headed (replicate 17 (at SL 0 (pos 0) (pos 1)))) 3 17 ∷ []
 
 -- 4: "a number names nothing, or no earlier node"
 unnamed : List Checked
 unnamed =
     -- no such variable
-    refused (at HD 1 (pos 3) (pos 0) ++ (at VR 1 (pos 0) (pos 1) ++ (at ND 3 (pos 1) (pos 0)))) 4 2
+    refused (headed (at VR 1 (pos 0) (pos 1) ∷ at ND 3 (pos 1) (pos 0) ∷ [])) 4 2
     -- a negative number
-    ∷ refused (at HD 1 (pos 2) (pos 0) ++ (at ND 3 (negsuc 0) (pos 0))) 4 1
+    ∷ refused (headed (at ND 3 (negsuc 0) (pos 0) ∷ [])) 4 1
     -- no such slot
-    ∷ refused (at HD 1 (pos 2) (pos 0) ++ (at ND 5 (pos 0) (pos 0))) 4 1
+    ∷ refused (headed (at ND 5 (pos 0) (pos 0) ∷ [])) 4 1
     -- no such array
-    ∷ refused (at HD 1 (pos 3) (pos 0) ++ (at ND 1 (pos 0) (pos 0) ++ (at ND 15 (pos 0) (pos 0)))) 4 2
+    ∷ refused (headed (at ND 1 (pos 0) (pos 0) ∷ at ND 15 (pos 0) (pos 0) ∷ [])) 4 2
     -- its own number
-    ∷ refused (at HD 1 (pos 2) (pos 0) ++ (at ND 11 (pos 0) (pos 0))) 4 1
+    ∷ refused (headed (at ND 11 (pos 0) (pos 0) ∷ [])) 4 1
     -- y its own number
-    ∷ refused (at HD 1 (pos 3) (pos 0) ++ (at ND 1 (pos 0) (pos 0) ++ (at ND 6 (pos 0) (pos 1)))) 4 2
+    ∷ refused (headed (at ND 1 (pos 0) (pos 0) ∷ at ND 6 (pos 0) (pos 1) ∷ [])) 4 2
     -- 4 before 5: x of the wrong type, y names nothing
-    ∷ refused (at HD 1 (pos 3) (pos 0) ++ (at ND 2 (pos 1) (pos 0) ++ (at ND 6 (pos 0) (pos 7)))) 4 2
+    ∷ refused (headed (at ND 2 (pos 1) (pos 0) ∷ at ND 6 (pos 0) (pos 7) ∷ [])) 4 2
     -- an element that names no variable
-    ∷ refused (at HD 1 (pos 3) (pos 0) ++ (at AR 1 (pos 0) (pos 1) ++ (at EL 1 (pos 0) (pos 0)))) 4 2
+    ∷ refused (headed (at AR 1 (pos 0) (pos 1) ∷ at EL 1 (pos 0) (pos 0) ∷ [])) 4 2
     -- a constraint that names no node
-    ∷ refused (at HD 1 (pos 3) (pos 0) ++ (at ND 2 (pos 1) (pos 0) ++ (at CN 0 (pos 1) (pos 0)))) 4 2
+    ∷ refused (headed (at ND 2 (pos 1) (pos 0) ∷ at CN 0 (pos 1) (pos 0) ∷ [])) 4 2
     ∷ []
 
 -- 5: "operand (node, variable, array) or element of the wrong type, constraint not Boolean"
 mistyped : List Checked
 mistyped =
     -- negate of a truth value
-    refused (at HD 1 (pos 3) (pos 0) ++ (at ND 2 (pos 1) (pos 0) ++ (at ND 11 (pos 0) (pos 0)))) 5 2
+    refused (headed (at ND 2 (pos 1) (pos 0) ∷ at ND 11 (pos 0) (pos 0) ∷ [])) 5 2
     -- not of a number
-    ∷ refused (at HD 1 (pos 3) (pos 0) ++ (at ND 1 (pos 0) (pos 0) ++ (at ND 24 (pos 0) (pos 0)))) 5 2
+    ∷ refused (headed (at ND 1 (pos 0) (pos 0) ∷ at ND 24 (pos 0) (pos 0) ∷ [])) 5 2
     -- y of the wrong type
-    ∷ refused (at HD 1 (pos 4) (pos 0) ++ (at ND 1 (pos 0) (pos 0) ++ (at ND 2 (pos 1) (pos 0) ++ (at ND 6 (pos 0) (pos 1))))) 5 3
+    ∷ refused (headed (at ND 1 (pos 0) (pos 0) ∷ at ND 2 (pos 1) (pos 0) ∷ at ND 6 (pos 0) (pos 1) ∷ [])) 5 3
     -- a comparison of truth values
-    ∷ refused (at HD 1 (pos 4) (pos 0) ++ (at ND 2 (pos 1) (pos 0) ++ (at ND 2 (pos 1) (pos 0) ++ (at ND 25 (pos 0) (pos 1))))) 5 3
+    ∷ refused (headed (at ND 2 (pos 1) (pos 0) ∷ at ND 2 (pos 1) (pos 0) ∷ at ND 25 (pos 0) (pos 1) ∷ [])) 5 3
     -- a bool variable as a number
-    ∷ refused (at HD 1 (pos 3) (pos 0) ++ (at VR 0 (pos 0) (pos 1) ++ (at ND 3 (pos 0) (pos 0)))) 5 2
+    ∷ refused (headed (at VR 0 (pos 0) (pos 1) ∷ at ND 3 (pos 0) (pos 0) ∷ [])) 5 2
     -- an integer variable as a truth value
-    ∷ refused (at HD 1 (pos 3) (pos 0) ++ (at VR 1 (pos 0) (pos 1) ++ (at ND 4 (pos 0) (pos 0)))) 5 2
+    ∷ refused (headed (at VR 1 (pos 0) (pos 1) ∷ at ND 4 (pos 0) (pos 0) ∷ [])) 5 2
     -- a bool array looked up as numbers
-    ∷ refused (at HD 1 (pos 5) (pos 0) ++ (at AR 0 (pos 0) (pos 1) ++ (at EL 0 (pos 1) (pos 0) ++ (at ND 1 (pos 0) (pos 0) ++ (at ND 15 (pos 0) (pos 0)))))) 5 4
+    ∷ refused (headed (at AR 0 (pos 0) (pos 1) ∷ at EL 0 (pos 1) (pos 0) ∷ at ND 1 (pos 0) (pos 0) ∷ at ND 15 (pos 0) (pos 0) ∷ [])) 5 4
     -- an element of the other type
-    ∷ refused (at HD 1 (pos 4) (pos 0) ++ (at VR 0 (pos 0) (pos 1) ++ (at AR 1 (pos 0) (pos 1) ++ (at EL 1 (pos 0) (pos 0))))) 5 3
+    ∷ refused (headed (at VR 0 (pos 0) (pos 1) ∷ at AR 1 (pos 0) (pos 1) ∷ at EL 1 (pos 0) (pos 0) ∷ [])) 5 3
     -- a constraint that is a number
-    ∷ refused (at HD 1 (pos 3) (pos 0) ++ (at ND 1 (pos 0) (pos 0) ++ (at CN 0 (pos 0) (pos 0)))) 5 2
+    ∷ refused (headed (at ND 1 (pos 0) (pos 0) ∷ at CN 0 (pos 0) (pos 0) ∷ [])) 5 2
     ∷ []
 
 -- 6: "constraint with a free slot"
 open-constraints : List Checked
 open-constraints =
     -- a free slot
-    refused (at HD 1 (pos 5) (pos 0) ++ (at SL 0 (pos 1) (pos 1) ++ (at ND 5 (pos 0) (pos 0) ++ (at ND 25 (pos 0) (pos 0) ++ (at CN 0 (pos 1) (pos 0)))))) 6 4
+    refused (headed (at SL 0 (pos 1) (pos 1) ∷ at ND 5 (pos 0) (pos 0) ∷ at ND 25 (pos 0) (pos 0) ∷ at CN 0 (pos 1) (pos 0) ∷ [])) 6 4
     -- another slot is bound
-    ∷ refused (at HD 1 (pos 7) (pos 0) ++ (at SL 0 (pos 1) (pos 1) ++ (at SL 0 (pos 1) (pos 1) ++ (at ND 5 (pos 1) (pos 0) ++ (at ND 25 (pos 0) (pos 0) ++ (at ND 29 (pos 0) (pos 1) ++ (at CN 0 (pos 2) (pos 0)))))))) 6 6
+    ∷ refused (headed (at SL 0 (pos 1) (pos 1) ∷ at SL 0 (pos 1) (pos 1) ∷ at ND 5 (pos 1) (pos 0) ∷ at ND 25 (pos 0) (pos 0) ∷ at ND 29 (pos 0) (pos 1) ∷ at CN 0 (pos 2) (pos 0) ∷ [])) 6 6
     -- the first of two slots
-    ∷ refused (at HD 1 (pos 6) (pos 0) ++ (at SL 0 (pos 1) (pos 1) ++ (at SL 0 (pos 1) (pos 1) ++ (at ND 5 (pos 0) (pos 0) ++ (at ND 25 (pos 0) (pos 0) ++ (at CN 0 (pos 1) (pos 0))))))) 6 5
+    ∷ refused (headed (at SL 0 (pos 1) (pos 1) ∷ at SL 0 (pos 1) (pos 1) ∷ at ND 5 (pos 0) (pos 0) ∷ at ND 25 (pos 0) (pos 0) ∷ at CN 0 (pos 1) (pos 0) ∷ [])) 6 5
     -- free in the left operand only
-    ∷ refused (at HD 1 (pos 6) (pos 0) ++ (at SL 0 (pos 1) (pos 1) ++ (at ND 5 (pos 0) (pos 0) ++ (at ND 1 (pos 0) (pos 0) ++ (at ND 25 (pos 0) (pos 1) ++ (at CN 0 (pos 2) (pos 0))))))) 6 5
+    ∷ refused (headed (at SL 0 (pos 1) (pos 1) ∷ at ND 5 (pos 0) (pos 0) ∷ at ND 1 (pos 0) (pos 0) ∷ at ND 25 (pos 0) (pos 1) ∷ at CN 0 (pos 2) (pos 0) ∷ [])) 6 5
     -- free in the right operand only
-    ∷ refused (at HD 1 (pos 6) (pos 0) ++ (at SL 0 (pos 1) (pos 1) ++ (at ND 5 (pos 0) (pos 0) ++ (at ND 1 (pos 0) (pos 0) ++ (at ND 25 (pos 1) (pos 0) ++ (at CN 0 (pos 2) (pos 0))))))) 6 5
+    ∷ refused (headed (at SL 0 (pos 1) (pos 1) ∷ at ND 5 (pos 0) (pos 0) ∷ at ND 1 (pos 0) (pos 0) ∷ at ND 25 (pos 1) (pos 0) ∷ at CN 0 (pos 2) (pos 0) ∷ [])) 6 5
     -- bound in one operand, free in the other; the second constraint
-    ∷ refused (at HD 1 (pos 8) (pos 0) ++ (at SL 0 (pos 1) (pos 1) ++ (at ND 5 (pos 0) (pos 0) ++ (at ND 25 (pos 0) (pos 0) ++ (at ND 30 (pos 0) (pos 1) ++ (at ND 20 (pos 2) (pos 1) ++ (at CN 0 (pos 2) (pos 0) ++ (at CN 0 (pos 3) (pos 0))))))))) 6 7
+    ∷ refused (headed (at SL 0 (pos 1) (pos 1) ∷ at ND 5 (pos 0) (pos 0) ∷ at ND 25 (pos 0) (pos 0) ∷ at ND 30 (pos 0) (pos 1) ∷ at ND 20 (pos 2) (pos 1) ∷ at CN 0 (pos 2) (pos 0) ∷ at CN 0 (pos 3) (pos 0) ∷ [])) 6 7
     ∷ []
 
 -- sound tables beside them
@@ -196,37 +217,54 @@ sounds =
     -- HD alone
     refused (at HD 1 (pos 1) (pos 0)) 0 0
     -- a free slot that no constraint reaches
-    ∷ refused (at HD 1 (pos 3) (pos 0) ++ (at SL 0 (pos 2) (pos 1) ++ (at ND 5 (pos 0) (pos 0)))) 0 0
+    ∷ refused (headed (at SL 0 (pos 2) (pos 1) ∷ at ND 5 (pos 0) (pos 0) ∷ [])) 0 0
     -- any 32-bit ends
-    ∷ refused (at HD 1 (pos 2) (pos 0) ++ (at VR 1 (negsuc 2147483647) (pos 2147483647))) 0 0
+    ∷ refused (headed (at VR 1 (negsuc 2147483647) (pos 2147483647) ∷ [])) 0 0
     -- 10,000 values
-    ∷ refused (at HD 1 (pos 2) (pos 0) ++ (at SL 0 (pos 1) (pos 10000))) 0 0
-    -- a slot end as far as it may be
-    ∷ refused (at HD 1 (pos 2) (pos 0) ++ (at SL 0 (negsuc 999999999) (negsuc 999999999))) 0 0
+    ∷ refused (headed (at SL 0 (pos 1) (pos 10000) ∷ [])) 0 0
+    -- slot ends and first indices as far as they may be
+    ∷ refused (headed (at SL 0 (negsuc 999999999) (negsuc 999999999) ∷ at SL 0 (pos 1000000000) (pos 1000000000) ∷ [])) 0 0
+    ∷ refused (headed (at AR 1 (negsuc 999999999) (pos 1) ∷ at EL 0 (pos 0) (pos 0) ∷ at AR 1 (pos 1000000000) (pos 1) ∷ at EL 0 (pos 0) (pos 0) ∷ [])) 0 0
     -- a bound slot
-    ∷ refused (at HD 1 (pos 6) (pos 0) ++ (at SL 0 (pos 1) (pos 1) ++ (at ND 5 (pos 0) (pos 0) ++ (at ND 25 (pos 0) (pos 0) ++ (at ND 30 (pos 0) (pos 1) ++ (at CN 0 (pos 2) (pos 0))))))) 0 0
+    ∷ refused (headed (at SL 0 (pos 1) (pos 1) ∷ at ND 5 (pos 0) (pos 0) ∷ at ND 25 (pos 0) (pos 0) ∷ at ND 30 (pos 0) (pos 1) ∷ at CN 0 (pos 2) (pos 0) ∷ [])) 0 0
     ∷ []
 
-checks-hold :
-    map (λ rows. map (λ r. checked (r .table)) rows) (lengths ∷ misplaced ∷ disallowed ∷ unnamed ∷ mistyped ∷ open-constraints ∷ sounds ∷ [])
-    ≡ map (λ rows. map (λ r. refusal (r .number) (r .place)) rows) (lengths ∷ misplaced ∷ disallowed ∷ unnamed ∷ mistyped ∷ open-constraints ∷ sounds ∷ [])
-unfolding at lengths misplaced disallowed unnamed mistyped open-constraints sounds checked
+all-checks : List (List Checked)
+all-checks = lengths ∷ misplaced ∷ disallowed ∷ aux ∷ unused-fields ∷ too-many ∷ unnamed ∷ mistyped ∷ open-constraints ∷ sounds ∷ []
+
+checks-hold : map (λ rows. map (λ r. checked (r .table)) rows) all-checks ≡ map (λ rows. map (λ r. refusal (r .number) (r .place)) rows) all-checks
+unfolding all-checks at headed lengths misplaced disallowed aux unused-fields too-many unnamed mistyped open-constraints sounds checked
 checks-hold = refl
+
+-- "at most 256", "at most 16", "at most 64": one record of each mark, as the last that is allowed in its section and as the next
+one-of-each : List ℕ
+unfolding at headed
+one-of-each = headed (at VR 1 (pos 0) (pos 1) ∷ at SL 0 (pos 0) (pos 1) ∷ at AR 1 (pos 0) (pos 1) ∷ at EL 0 (pos 0) (pos 0) ∷ [])
+
+limits-hold :
+    map (λ i. variableFault one-of-each i 1) (255 ∷ 256 ∷ []) ∷ map (λ i. slotFault one-of-each i 2) (15 ∷ 16 ∷ []) ∷ map (λ i. arrayFault one-of-each i 3) (63 ∷ 64 ∷ []) ∷ []
+    ≡ (none ∷ some 3 ∷ []) ∷ (none ∷ some 3 ∷ []) ∷ (none ∷ some 3 ∷ []) ∷ []
+unfolding one-of-each checked
+limits-hold = refl
 
 -- ---- 7 to 11, by the calls, and the order of refusals
 
 -- a table for each of them
 sentence : List ℕ
-unfolding at
-sentence = at HD 1 (pos 7) (pos 0) ++ (at VR 1 (pos 0) (pos 1) ++ (at VR 1 (pos 2) (pos 5) ++ (at ND 3 (pos 0) (pos 0) ++ (at ND 3 (pos 1) (pos 0) ++ (at ND 27 (pos 0) (pos 1) ++ (at CN 0 (pos 2) (pos 0)))))))
+unfolding at headed
+sentence = headed (at VR 1 (pos 0) (pos 1) ∷ at VR 1 (pos 2) (pos 5) ∷ at ND 3 (pos 0) (pos 0) ∷ at ND 3 (pos 1) (pos 0) ∷ at ND 27 (pos 0) (pos 1) ∷ at CN 0 (pos 2) (pos 0) ∷ [])
 
 beyond : List ℕ
-unfolding at
-beyond = at HD 1 (pos 4) (pos 0) ++ (at ND 1 (pos 2000000001) (pos 0) ++ (at ND 25 (pos 0) (pos 0) ++ (at CN 0 (pos 1) (pos 0))))
+unfolding at headed
+beyond = headed (at ND 1 (pos 2000000001) (pos 0) ∷ at ND 25 (pos 0) (pos 0) ∷ at CN 0 (pos 1) (pos 0) ∷ [])
+
+at-the-limit : List ℕ
+unfolding at headed
+at-the-limit = headed (at ND 1 (pos 2000000000) (pos 0) ∷ at ND 25 (pos 0) (pos 0) ∷ at CN 0 (pos 1) (pos 0) ∷ [])
 
 unreached : List ℕ
-unfolding at
-unreached = at HD 1 (pos 4) (pos 0) ++ (at ND 1 (pos 2000000001) (pos 0) ++ (at ND 2 (pos 1) (pos 0) ++ (at CN 0 (pos 1) (pos 0))))
+unfolding at headed
+unreached = headed (at ND 1 (pos 2000000001) (pos 0) ∷ at ND 2 (pos 1) (pos 0) ∷ at CN 0 (pos 1) (pos 0) ∷ [])
 
 headless : List ℕ
 unfolding at
@@ -295,6 +333,11 @@ calls =
     ∷ call 3 beyond [] 3 (replicate 900 9) (refusal 8 0) (refusal 8 1)
     -- 8 before 9 in translation, 9 before 8 in evaluation
     ∷ call 3 beyond [] 3 (replicate 0 9) (refusal 9 0) (refusal 8 1)
+    -- "a constant of 2,000,000,000 translates and 2,000,000,001 gives 8": the same with the constant at the limit
+    ∷ call 3 at-the-limit [] 3 (replicate 900 9) (evaluation-done 3 1 true) (translation-done 96)
+    -- "budget 6 passes P4 and 5 is refused with 11"
+    ∷ call 3 p4 (pos 0 ∷ []) 6 (replicate 900 9) (evaluation-done 6 1 true) (translation-done 240)
+    ∷ call 3 p4 (pos 0 ∷ []) 5 (replicate 900 9) (refusal 11 0) (translation-done 240)
     -- 8: a node that no constraint reaches counts for translation only
     ∷ call 3 unreached [] 1 (replicate 900 9) (evaluation-done 1 1 true) (refusal 8 1)
     -- no constraint: done, 0 steps, yes
@@ -306,11 +349,11 @@ calls =
 -- the answers of both calls
 answers-hold :
     map (λ r. evaluated (r .choice) (r .table) (r .assignment) (r .budget) (r .lent) .answer) calls ≡ map (λ r. r .evaluation) calls
-unfolding sentence beyond unreached headless header calls evaluated
+unfolding p4 sentence beyond at-the-limit unreached headless header calls evaluated
 answers-hold = refl
 
 translations-hold : map (λ r. translated (r .choice) (r .table) (r .lent) .answer) calls ≡ map (λ r. r .translation) calls
-unfolding sentence beyond unreached headless header calls translated
+unfolding p4 sentence beyond at-the-limit unreached headless header calls translated
 translations-hold = refl
 
 -- "changes no lent byte": the calls that both refuse

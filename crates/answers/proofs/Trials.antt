@@ -61,7 +61,7 @@ p3 =
     ∷ []
 
 -- P4: y in 0..1, ¬(1/y = 1)
-p4 : List ℕ
+unfoldable pub p4 : List ℕ
 p4 =
     72 ∷ 68 ∷ 1 ∷ 0 ∷ 8 ∷ 0 ∷ 0 ∷ 0 ∷ 0 ∷ 0 ∷ 0 ∷ 0  -- HD 1 0 8 0
     ∷ 86 ∷ 82 ∷ 1 ∷ 0 ∷ 0 ∷ 0 ∷ 0 ∷ 0 ∷ 1 ∷ 0 ∷ 0 ∷ 0  -- VR 1 0 0 1
@@ -127,15 +127,15 @@ p8 =
 -- ---- the rows
 
 -- A table with one constraint, an assignment, the verdict under strict, Kleene and relational (0 false, 1 true, 2 undefined), the steps.
-record Trial : Type 0 where
-  table : List ℕ
-  assignment : List ℤ
-  strict : ℕ
-  kleene : ℕ
-  relational : ℕ
-  steps : ℕ
+pub record Trial : Type 0 where
+  pub table : List ℕ
+  pub assignment : List ℤ
+  pub strict : ℕ
+  pub kleene : ℕ
+  pub relational : ℕ
+  pub steps : ℕ
 
-abbrev trial : List ℕ → List ℤ → ℕ → ℕ → ℕ → ℕ → Trial
+abbrev pub trial : List ℕ → List ℤ → ℕ → ℕ → ℕ → ℕ → Trial
 trial table α s k r n = record { table = table; assignment = α; strict = s; kleene = k; relational = r; steps = n }
 
 abbrev y : ℕ → List ℤ
@@ -168,13 +168,17 @@ abbrev outcome : ℕ → ℕ → Outcome
 outcome v n = record { answer = record { number = 0; at = 0; steps = n; length-written = 1; all-true = eqb v 1 }; lent = v ∷ 9 ∷ [] }
 
 -- each row under the three choices, with the steps for a budget
-evaluations : Trial → List Outcome
+unfoldable pub evaluations : Trial → List Outcome
 unfolding evaluated
 evaluations r = map (λ choice. evaluated choice (r .table) (r .assignment) (r .steps) lent) (1 ∷ 2 ∷ 3 ∷ [])
 
+-- and what they should give
+unfoldable pub outcomes : Trial → List Outcome
+outcomes r = outcome (r .strict) (r .steps) ∷ outcome (r .kleene) (r .steps) ∷ outcome (r .relational) (r .steps) ∷ []
+
 -- P1 to P9
-trials-hold : map evaluations trials ≡ map (λ r. outcome (r .strict) (r .steps) ∷ outcome (r .kleene) (r .steps) ∷ outcome (r .relational) (r .steps) ∷ []) trials
-unfolding p1 p2 p3 p4 p5 p6 p7 p8 trials evaluations
+trials-hold : map evaluations trials ≡ map outcomes trials
+unfolding p1 p2 p3 p4 p5 p6 p7 p8 trials evaluations outcomes
 trials-hold = refl
 
 -- ---- P4 under choice 3

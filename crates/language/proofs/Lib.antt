@@ -1,6 +1,9 @@
 pub mod Agreement
+pub mod Computed
 pub mod Finite
 pub mod FreeSlots
+pub mod MetTrials
 pub mod Ranges
+pub mod StepTrials
 pub mod Trees
 pub mod Trials

@@ -9,24 +9,13 @@ use mathlib.Core.Path.{_≡_, refl}
 use Prim.Native.Nat.{ℕ}
 use mathlib.Core.Bool.{Bool, true, false}
 use mathlib.Core.List.{List, [], _∷_, _++_, map}
-use mathlib.Core.Option.{Option, none, some, bind}
+use mathlib.Core.Option.{Option, none, some}
 use lib.IntN.{ℤ, pos, negsuc}
-use Rattle.numbers.specs.Whole as Whole
-use Rattle.language.specs.Syntax.{plus, minus, times, quot, Connective, conj, disj, implies, iff, Comparison, equal, unequal, atMost, below, Quantifier, exists, forall, IExp, constant, slot, arith, divide, boolToInt, lookup, sum, BExp, truth, lookupB, connect, negation, compare, quantify, boolean, integer, fixed, ofVariable, Declarations}
-use Rattle.language.specs.Readings as Readings
+use Rattle.language.specs.Syntax.{plus, minus, times, minimum, maximum, quot, rem, Connective, conj, disj, implies, iff, Comparison, equal, unequal, atMost, below, Quantifier, exists, forall, IExp, constant, variable, slot, arith, divide, negate, boolToInt, lookup, sum, BExp, truth, variableB, lookupB, connect, negation, compare, quantify, boolean, integer, fixed, ofVariable, Declarations}
 use Rattle.language.specs.Readings.{Reading, strict, kleene, relational}
-use Rattle.language.specs.Meaning as Meaning
-use Rattle.language.specs.Meaning.{valueI, valueB, metWithinI}
+use Rattle.language.proofs.Computed.{worthI-at, worthB, worthI}
 
--- ---- the two evaluators, opened
-
-worthB : Reading → Declarations → BExp ⊥ → Option Bool
-unfolding Whole.eqZ Whole.least Whole.greatest Whole.quotient Whole.remainder Readings.both Readings.arithmetic Readings.part Readings.division Readings.comparison Readings.logic Readings.strictly Readings.kleeneAnd Readings.kleeneOr Readings.opposite Readings.kleenely Readings.connective Readings.atomic Readings.over Readings.joins Readings.ofNone Readings.quantified Readings.summed Meaning.put Meaning.noSlot Meaning.noArray Meaning.slotAt Meaning.arrayAt Meaning.count Meaning.isOne Meaning.number Meaning.valueOf Meaning.elementValue Meaning.elementAt valueI bind
-worthB ρ Γ e = valueB ρ Γ (pos 3 ∷ pos 1 ∷ []) e (λ s. pos 0)
-
-worthI : Reading → Declarations → IExp ⊥ → Option ℤ
-unfolding worthB
-worthI ρ Γ e = valueI ρ Γ (pos 3 ∷ pos 1 ∷ []) e (λ s. pos 0)
+-- ---- operands
 
 -- no declarations
 abbrev none-declared : Declarations
@@ -88,6 +77,62 @@ connections-hold :
 unfolding connections pairs worthB
 connections-hold = refl
 
+-- ---- leaves and integer operators, the same in each reading
+
+-- variables 0 to 2, which are −5, 0 and 1; the second and the third are Boolean too
+record Worked : Type 0 where
+  expression : IExp ⊥
+  value : Option ℤ
+
+abbrev worked : IExp ⊥ → ℤ → Worked
+worked e z = record { expression = e; value = some z }
+
+abbrev no-value : IExp ⊥ → Worked
+no-value e = record { expression = e; value = none }
+
+abbrev seven : IExp ⊥
+seven = constant (pos 7)
+
+abbrev minus-two : IExp ⊥
+minus-two = constant (negsuc 1)
+
+-- every operator on 7 and −2 both ways; each value belongs to one operator alone
+calculations : List Worked
+calculations =
+    worked seven (pos 7)
+    ∷ worked minus-two (negsuc 1)
+    ∷ worked (variable 0) (negsuc 4)
+    ∷ worked (variable 2) (pos 1)
+    ∷ worked (slot 4) (pos 0)
+    ∷ worked (arith plus seven minus-two) (pos 5)
+    ∷ worked (arith minus seven minus-two) (pos 9)
+    ∷ worked (arith minus minus-two seven) (negsuc 8)
+    ∷ worked (arith times seven minus-two) (negsuc 13)
+    ∷ worked (arith minimum seven minus-two) (negsuc 1)
+    ∷ worked (arith minimum minus-two seven) (negsuc 1)
+    ∷ worked (arith maximum seven minus-two) (pos 7)
+    ∷ worked (arith maximum minus-two seven) (pos 7)
+    ∷ worked (divide quot seven minus-two) (negsuc 2)
+    ∷ worked (divide quot minus-two seven) (pos 0)
+    ∷ worked (divide rem seven minus-two) (pos 1)
+    ∷ worked (divide rem minus-two seven) (pos 5)
+    ∷ worked (negate seven) (negsuc 6)
+    ∷ worked (negate minus-two) (pos 2)
+    ∷ worked (boolToInt (variableB 1)) (pos 0)
+    ∷ worked (boolToInt (variableB 2)) (pos 1)
+    ∷ no-value (divide quot seven (constant (pos 0)))
+    ∷ no-value (divide rem seven (constant (pos 0)))
+    ∷ no-value (negate zero-divided)
+    ∷ (map (λ op. no-value (arith op zero-divided seven)) (plus ∷ minus ∷ times ∷ minimum ∷ maximum ∷ [])
+    ++ (map (λ op. no-value (arith op seven zero-divided)) (plus ∷ minus ∷ times ∷ minimum ∷ maximum ∷ [])
+    ++ (map (λ op. no-value (divide op zero-divided seven)) (quot ∷ rem ∷ []) ++ map (λ op. no-value (divide op seven zero-divided)) (quot ∷ rem ∷ []))))
+
+calculations-hold : (ρ : Reading) → map (λ r. worthI-at (negsuc 4 ∷ pos 0 ∷ pos 1 ∷ []) ρ none-declared (r .expression)) calculations ≡ map (λ r. r .value) calculations
+unfolding calculations worthI-at
+calculations-hold strict = refl
+calculations-hold kleene = refl
+calculations-hold relational = refl
+
 -- ---- not and boolToInt of T, F, U
 
 record Unary : Type 0 where
@@ -111,7 +156,7 @@ unaries-hold :
     (map (λ a. worthB (r .reading) none-declared (negation a)) (T ∷ F ∷ U ∷ []))
     (map (λ a. worthI (r .reading) none-declared (boolToInt a)) (T ∷ F ∷ U ∷ [])))
     unaries ≡ unaries
-unfolding unaries worthI
+unfolding unaries worthB worthI
 unaries-hold = refl
 
 -- ---- comparisons: first operand 1, 2, 1 div 0 down, second operand across
@@ -190,7 +235,7 @@ lookups-hold :
     (map (λ i. worthB (r .reading) arrays-declared (lookupB 0 i)) indices)
     (map (λ i. worthI (r .reading) arrays-declared (lookup 1 i)) indices))
     lookups ≡ lookups
-unfolding lookups indices worthI
+unfolding lookups indices worthB worthI
 lookups-hold = refl
 
 -- ---- quantifiers and sums over ranges of 0 to 3 values, for every way that the body can go
@@ -339,50 +384,3 @@ unfolding shadows worthI
 shadows-hold strict = refl
 shadows-hold kleene = refl
 shadows-hold relational = refl
-
--- ---- number 8: what is met and what is not
-
-within : Declarations → IExp ⊥ → Bool
-unfolding worthB Whole.withinLimit Meaning.valueWithin Meaning.throughout metWithinI
-within Γ e = metWithinI strict Γ [] e (λ s. pos 0)
-
--- an empty slot and one of four values, 1..4
-abbrev slots-declared : Declarations
-slots-declared = record { variables = []; slots = record { low = pos 1; high = pos 0 } ∷ record { low = pos 1; high = pos 4 } ∷ []; arrays = [] }
-
-abbrev large : IExp ⊥
-large = constant (pos 2_000_000_000)
-
-abbrev too-large : IExp ⊥
-too-large = arith plus large (constant (pos 1))
-
--- 1, 1, −1, −1 over the values of slot 1
-abbrev there-and-back : IExp ⊥
-there-and-back = arith minus (constant (pos 1)) (arith times (constant (pos 2)) (boolToInt (compare below (constant (pos 2)) (slot 1))))
-
-record Met : Type 0 where
-  expression : IExp ⊥
-  stays : Bool
-
-abbrev met : IExp ⊥ → Bool → Met
-met e b = record { expression = e; stays = b }
-
--- In order: a constant at and beyond the limit; a sum beyond it, alone and under an operator that brings the value back; under an empty
--- range; a partial sum beyond it, 4,000,000,000 on the way to 0; a sum that ends beyond it; an operand of an undefined node; an undefined node.
-meetings : List Met
-meetings =
-    met large true
-    ∷ met (constant (pos 2_000_000_001)) false
-    ∷ met (constant (negsuc 2_000_000_000)) false
-    ∷ met too-large false
-    ∷ met (arith minus too-large (constant (pos 1))) false
-    ∷ met (sum 0 too-large) true
-    ∷ met (sum 1 (arith times large there-and-back)) true
-    ∷ met (sum 1 large) false
-    ∷ met (divide quot too-large (constant (pos 0))) false
-    ∷ met (divide quot large (constant (pos 0))) true
-    ∷ []
-
-meetings-hold : map (λ r. met (r .expression) (within slots-declared (r .expression))) meetings ≡ meetings
-unfolding meetings within
-meetings-hold = refl

@@ -7,12 +7,13 @@ use mathlib.Core.List.{List, [], _∷_, _++_, map}
 use mathlib.Core.Option.{none, some, Option·map}
 use lib.IntN.{ℤ, pos, negsuc}
 use Rattle.numbers.specs.Whole.{eqZ}
-use Rattle.language.specs.Syntax.{Sort, boolean, integer}
+use Rattle.language.specs.Syntax.{Sort, boolean, integer, plus, minus, times, minimum, maximum, quot, rem, conj, disj, implies, iff, equal, unequal, atMost, below, exists, forall}
+use Rattle.language.specs.Tables.{Row, constantRow, variableRow, slotRow, arithRow, divideRow, negateRow, boolToIntRow, lookupRow, sumRow, truthRow, variableBRow, lookupBRow, connectRow, negationRow, compareRow, quantifyRow}
 use Rattle.language.specs.Meaning.{isOne, number}
 use Rattle.table.specs.Records as Records
 use Rattle.table.specs.Records.{Mark, HD, VR, SL, AR, EL, ND, CN, marked, kindAt, auxAt, xAt, yAt, recordBytes}
 use Rattle.table.specs.Kinds as Kinds
-use Rattle.table.specs.Kinds.{Field, unused, anyNumber, truthValue, variableNumber, slotNumber, arrayNumber, nodeNumber, kindOf, nodeBytes}
+use Rattle.table.specs.Kinds.{Field, unused, anyNumber, truthValue, variableNumber, slotNumber, arrayNumber, nodeNumber, kindOf, rowIn, nodeBytes}
 
 -- ---- records on disk
 
@@ -127,6 +128,58 @@ kinds-taken = refl
 others : map (λ k. Option·map (λ r. r .yields) (kindOf k)) (0 ∷ 18 ∷ 19 ∷ 31 ∷ 32 ∷ 255 ∷ []) ≡ none ∷ none ∷ none ∷ none ∷ none ∷ none ∷ []
 unfolding kindOf Kinds.kinds
 others = refl
+
+-- ---- rows: what each kind does with its fields
+
+record Does : Type 0 where
+  kind : ℕ
+  row : Row
+
+abbrev does : ℕ → Row → Does
+does k r = record { kind = k; row = r }
+
+-- with 8 for x and 9 for y
+done : List Does
+done =
+    does 1 (constantRow (pos 8))
+    ∷ does 3 (variableRow 8)
+    ∷ does 4 (variableBRow 8)
+    ∷ does 5 (slotRow 8)
+    ∷ does 6 (arithRow plus 8 9)
+    ∷ does 7 (arithRow minus 8 9)
+    ∷ does 8 (arithRow times 8 9)
+    ∷ does 9 (divideRow quot 8 9)
+    ∷ does 10 (divideRow rem 8 9)
+    ∷ does 11 (negateRow 8)
+    ∷ does 12 (arithRow minimum 8 9)
+    ∷ does 13 (arithRow maximum 8 9)
+    ∷ does 14 (boolToIntRow 8)
+    ∷ does 15 (lookupRow 8 9)
+    ∷ does 16 (lookupBRow 8 9)
+    ∷ does 17 (sumRow 8 9)
+    ∷ does 20 (connectRow conj 8 9)
+    ∷ does 21 (connectRow disj 8 9)
+    ∷ does 22 (connectRow implies 8 9)
+    ∷ does 23 (connectRow iff 8 9)
+    ∷ does 24 (negationRow 8)
+    ∷ does 25 (compareRow equal 8 9)
+    ∷ does 26 (compareRow unequal 8 9)
+    ∷ does 27 (compareRow atMost 8 9)
+    ∷ does 28 (compareRow below 8 9)
+    ∷ does 29 (quantifyRow exists 8 9)
+    ∷ does 30 (quantifyRow forall 8 9)
+    ∷ []
+
+rows-done : map (λ r. rowIn (kindOf (r .kind)) (pos 8) (pos 9)) done ≡ map (λ r. r .row) done
+unfolding done rowIn kindOf Kinds.kinds
+rows-done = refl
+
+-- a negative constant; the truth constants 0 and 1; a kind that does not exist
+other-rows :
+    map (λ x. rowIn (kindOf 1) x (pos 0)) (negsuc 7 ∷ pos 0 ∷ []) ++ (map (λ x. rowIn (kindOf 2) x (pos 0)) (pos 0 ∷ pos 1 ∷ []) ++ map (λ k. rowIn (kindOf k) (pos 1) (pos 1)) (0 ∷ 18 ∷ 31 ∷ []))
+    ≡ constantRow (negsuc 7) ∷ constantRow (pos 0) ∷ truthRow false ∷ truthRow true ∷ truthRow false ∷ truthRow false ∷ truthRow false ∷ []
+unfolding rowIn kindOf Kinds.kinds isOne eqZ
+other-rows = refl
 
 -- a record's row, written as a record again, is that record
 abbrev secondField : Field → ℤ
