@@ -96,3 +96,26 @@ implied true true t u e = u
 implied true false t u e = absurd (true≢false e)
 implied false true t u e = absurd (false≢true e)
 implied false false t u e = u
+
+-- the same truth value, undefined included
+abbrev pub same : Option Bool → Option Bool → Bool
+same none none = true
+same none (some b) = false
+same (some a) none = false
+same (some a) (some b) = Bool·beq a b
+
+-- That test is an equation too,
+pub same→≡ : (x y : Option Bool) → T (same x y) → x ≡ y
+same→≡ none none t = refl
+same→≡ none (some b) t = absurd t
+same→≡ (some a) none t = absurd t
+same→≡ (some a) (some b) t = ap some (beq→≡ a b t)
+
+-- and an equation passes it.
+pub ≡→same : {x y : Option Bool} → x ≡ y → T (same x y)
+≡→same {x} {y} e = rw e (go y)
+  where
+    go : (z : Option Bool) → T (same z z)
+    go none = tt
+    go (some true) = tt
+    go (some false) = tt

@@ -3,6 +3,7 @@ pub mod Computed
 pub mod Finite
 pub mod FreeSlots
 pub mod MetTrials
+pub mod Quantifiers
 pub mod Ranges
 pub mod StepTrials
 pub mod Trees

@@ -1,5 +1,6 @@
+pub mod Meaning
+pub mod Quantified
+pub mod Readings
+pub mod Steps
 pub mod Syntax
 pub mod Tables
-pub mod Readings
-pub mod Meaning
-pub mod Steps

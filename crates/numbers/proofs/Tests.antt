@@ -1,7 +1,8 @@
 -- Tests as facts: a case split on a test, and two tests joined.
 -- Assumes nothing.
 use mathlib.Core.Path.{_≡_, refl}
-use mathlib.Core.Bool.{Bool, true, false, not, cond, _&&_}
+use mathlib.Core.Bool.{Bool, true, false, not, cond, _&&_, _||_}
+use mathlib.Core.Logic.{_⊎_, inl, inr, ⊎-elim}
 use lib.Dec.{T}
 
 -- A case split on a test, with what the test says in each case.
@@ -49,3 +50,13 @@ T-iff true true f g = refl
 T-iff true false f g = absurd (f tt)
 T-iff false true f g = absurd (g tt)
 T-iff false false f g = refl
+
+-- One of two tests has passed where either has,
+pub ||-cases : (a b : Bool) → T (a || b) → T a ⊎ T b
+||-cases true b t = inl tt
+||-cases false b t = inr t
+
+-- and only there.
+pub ||-intro : (a b : Bool) → T a ⊎ T b → T (a || b)
+||-intro true b w = tt
+||-intro false b w = ⊎-elim (λ t. absurd t) (λ t. t) w
