@@ -1,14 +1,12 @@
 //! The cases that are timed.
 
-use barfigol_tables::calls::{Calls, CHOICES, KLEENE, MOST_BYTES};
+use barfigol_format::kinds::Field;
+use barfigol_format::limits::{MOST_BYTES, MOST_RECORDS, MOST_SLOTS};
+use barfigol_format::{Element, Node, Table, Type};
+use barfigol_tables::calls::{Calls, CHOICES, KLEENE};
 use barfigol_tables::cases::{Call, Case};
-use barfigol_tables::kinds::Field;
-use barfigol_tables::{limits, trials, Element, Node, Table, Type};
+use barfigol_tables::{limits, trials};
 
-/// The records of the longest table.
-const MOST_RECORDS: usize = 5_000;
-/// The most slots of a table.
-const MOST_SLOTS: i32 = 16;
 /// The deepest chains that are timed.
 const DEPTH: usize = 4_900;
 
@@ -104,7 +102,7 @@ fn blocks(block: &Table, count: usize) -> Table {
 /// table.
 fn mixed() -> Table {
     let mut block = trials::every_kind();
-    while (block.slots.len() as i32) < MOST_SLOTS {
+    while block.slots.len() < MOST_SLOTS {
         block = block.slot(1, 2);
     }
     let each = block.nodes.len() + block.constraints.len();

@@ -4,7 +4,7 @@ use crate::arguments::{Point, Request, Source};
 use crate::explain::{explain, Call};
 use crate::files;
 use barfigol::{Choice, Refusal, MOST_BYTES};
-use barfigol_tables::{pretty, ROW_BYTES};
+use barfigol_format::{pretty, ROW_BYTES};
 use std::io::{self, Write};
 use std::path::Path;
 

@@ -1,7 +1,6 @@
 //! What an implementation of the three calls looks like to the trials.
 
-use crate::builder::Table;
-use crate::row::pretty;
+use barfigol_format::{pretty, Table};
 
 /// The choices of the three readings.
 pub const STRICT: u32 = 1;
@@ -12,8 +11,7 @@ pub const RELATIONAL: u32 = 3;
 /// All three.
 pub const CHOICES: [u32; 3] = [STRICT, KLEENE, RELATIONAL];
 
-/// The bytes of the longest table.
-pub const MOST_BYTES: usize = 60_000;
+pub use barfigol_format::limits::MOST_BYTES;
 
 /// What a call gives back, with the same fields for every call.
 #[derive(Clone, Copy, Debug, Default, PartialEq, Eq)]

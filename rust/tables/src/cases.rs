@@ -1,10 +1,10 @@
 //! Whole calls: a table with all the other arguments.
 
-use crate::builder::Table;
 use crate::calls::{Answer, Calls, MOST_BYTES};
 use crate::random::{self, Plan};
 use crate::shrink::shrink;
-use crate::{cost, damage, pretty, trials, Random};
+use crate::{damage, trials, Random};
+use barfigol_format::{cost, pretty, Table};
 
 /// Tables with more steps are not walked.
 const MOST_STEPS: u128 = 300_000;

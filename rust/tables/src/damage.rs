@@ -1,9 +1,8 @@
 //! Faulty tables, made from sound ones.
 
-use crate::builder::{Node, Table};
-use crate::kinds::{self, Field, Type};
 use crate::prng::Random;
-use crate::row::{bytes_of, rows_of, Row, ROW_BYTES};
+use barfigol_format::kinds::{self, Field};
+use barfigol_format::{bytes_of, rows_of, Node, Row, Table, Type, ROW_BYTES};
 
 /// A table with one fault, and the refusal that the fault calls for.
 #[derive(Clone, Debug, PartialEq, Eq)]

@@ -1,8 +1,8 @@
 //! The tables of the folder `examples/`, by file name.
 
-use crate::builder::Table;
 use crate::placement::{placement, two_forms};
 use crate::trials;
+use barfigol_format::Table;
 
 /// P4 with a fault: the divisor of node 2 names no earlier node.
 pub fn faulty() -> Table {

@@ -1,34 +1,28 @@
-//! Constraint tables: their records, a builder, examples, and tables for trials
-//! and benchmarks.
+//! Constraint tables for trials and benchmarks, and the trials themselves.
 //!
-//! [`Table`] is a readable builder. [`trials`] holds the worked examples,
-//! [`placement`] a small model, [`examples`] the files made of both, [`limits`]
-//! tables at the edges of what is allowed, [`random`] seeded sound tables of
-//! every kind, [`damage`] faulty ones, and [`shrink`] makes a failing table
-//! smaller. [`cases`] makes whole calls, and [`suite`] holds the trials that every
-//! implementation of the [`calls`] has to pass. Nothing here checks or evaluates a
-//! table.
+//! [`trials`] holds the worked examples, [`placement`] a small model,
+//! [`examples`] the files made of both, [`limits`] tables at the edges of what
+//! is allowed, [`random`] seeded sound tables of every kind, [`damage`] faulty
+//! ones, and [`shrink`] makes a failing table smaller. [`cases`] makes whole
+//! calls, and [`suite`] holds the trials that every implementation of the
+//! [`calls`] has to pass. Nothing here checks or evaluates a table. Tables are
+//! built with `barfigol_format`, whose names are given on for the trials.
 
 #![forbid(unsafe_code)]
 #![warn(missing_docs)]
 
-mod builder;
 pub mod calls;
 pub mod cases;
-pub mod cost;
 pub mod damage;
 pub mod examples;
-pub mod kinds;
 pub mod limits;
 pub mod placement;
 mod prng;
 pub mod random;
-mod row;
 pub mod shrink;
 pub mod suite;
 pub mod trials;
 
-pub use builder::{Array, Element, Node, Slot, Table, Variable};
-pub use kinds::Type;
+pub use barfigol_format::{bytes_of, hex, pretty, rows_of, Row, ROW_BYTES};
+pub use barfigol_format::{cost, kinds, Array, Element, Node, Slot, Table, Type, Variable};
 pub use prng::Random;
-pub use row::{bytes_of, from_hex, hex, pretty, rows_of, Row, ROW_BYTES};

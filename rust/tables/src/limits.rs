@@ -1,7 +1,6 @@
 //! Tables at the edges of what is allowed.
 
-use crate::builder::{Element, Node, Table};
-use crate::kinds::Type;
+use barfigol_format::{Element, Node, Table, Type};
 
 /// Ends a table with a constraint that is true.
 fn with_true_constraint(table: Table) -> Table {

@@ -4,7 +4,7 @@
 //! width is 0, and it has no entry in the list of limits. Where a buffer goes
 //! to bank 2, a rule may divide by 0 or look one past the end.
 
-use crate::builder::{Node, Table};
+use barfigol_format::{Node, Table};
 
 /// The line width of each bank, 0 for the uncached one.
 const WIDTHS: [i32; 3] = [16, 32, 0];

@@ -1,8 +1,8 @@
 //! Seeded random tables. All of them are sound.
 
-use crate::builder::{Array, Element, Node, Slot, Table, Variable};
-use crate::kinds::{self, Field, Kind, Type};
 use crate::prng::Random;
+use barfigol_format::kinds::{self, Field, Kind};
+use barfigol_format::{Array, Element, Node, Slot, Table, Type, Variable};
 
 /// How large a random table may become.
 #[derive(Clone, Copy, Debug, PartialEq, Eq)]

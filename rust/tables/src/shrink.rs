@@ -1,7 +1,7 @@
 //! Makes a failing table smaller.
 
-use crate::builder::{Element, Node, Table};
-use crate::kinds::{Field, Type};
+use barfigol_format::kinds::Field;
+use barfigol_format::{Element, Node, Table, Type};
 
 /// The most candidates that are tried.
 const MOST_TRIES: usize = 20_000;

@@ -1,8 +1,7 @@
 //! The worked examples P1 to P9, and a table with every kind. P9 is the cost of
 //! P4's constraint.
 
-use crate::builder::{Element, Node, Table};
-use crate::kinds::Type;
+use barfigol_format::{Element, Node, Table, Type};
 
 /// P1 to P8.
 pub const ALL: [fn() -> Table; 8] = [p1, p2, p3, p4, p5, p6, p7, p8];

@@ -4,16 +4,14 @@
 //! the table's bytes. Nothing here decides anything: where no fault is found
 //! that fits the number, the sentence of the number stands alone.
 
-mod faults;
-mod intervals;
-mod place;
 #[cfg(test)]
 mod tests;
 
-use barfigol::{Refusal, MOST_BYTES};
-use barfigol_tables::{cost, rows_of, Table, ROW_BYTES};
-use intervals::Beyond;
-use place::{numbered, Place};
+use barfigol::Refusal;
+use barfigol_format::intervals::{self, Beyond};
+use barfigol_format::limits::{MOST_BYTES, VALUE_LIMIT};
+use barfigol_format::words::numbered;
+use barfigol_format::{cost, faults, rows_of, Place, Table, ROW_BYTES};
 
 /// What the library was asked.
 #[derive(Clone, Copy, Debug)]
@@ -124,8 +122,7 @@ fn too_wide(table: &[u8], record: usize) -> Option<String> {
         return None;
     }
     Some(format!(
-        "its values lie in {low}..{high}, beyond ±{}",
-        intervals::LIMIT
+        "its values lie in {low}..{high}, beyond ±{VALUE_LIMIT}"
     ))
 }
 
@@ -135,9 +132,8 @@ fn too_large(table: &[u8]) -> Option<String> {
     let table = Table::read(table);
     let Beyond { node, .. } = intervals::first_beyond(&table)?;
     let record = table.first_node_record() + node;
-    let limit = intervals::LIMIT;
     Some(format!(
-        "a value is beyond ±{limit}; the first node that can pass the limit is node {node} (record {record})"
+        "a value is beyond ±{VALUE_LIMIT}; the first node that can pass the limit is node {node} (record {record})"
     ))
 }
 

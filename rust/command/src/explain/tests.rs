@@ -1,12 +1,9 @@
-//! The explanation of every number, on the smallest tables, and on random
-//! damaged ones.
+//! The explanation of every number, on the smallest tables.
 
-use super::{explain, faults, intervals, Call};
-use crate::explain::place::Place;
+use super::{explain, Call};
 use barfigol::{Choice, Refusal};
-use barfigol_tables::random::{self, Plan};
-use barfigol_tables::{bytes_of, damage, limits, pretty, rows_of, trials};
-use barfigol_tables::{Node, Random, Row, Table};
+use barfigol_format::{bytes_of, pretty, Node, Row, Table};
+use barfigol_tables::{limits, trials};
 
 const fn row(mark: &[u8; 2], kind: u8, x: i32, y: i32) -> Row {
     Row::new(mark, kind, x, y)
@@ -405,72 +402,4 @@ fn a_number_that_does_not_fit_has_its_sentence() {
             }
         }
     }
-}
-
-#[test]
-fn sound_tables_have_no_fault() {
-    let mut random = Random::new(20);
-    let two_arrays = Table::new().constants(0, &[1, 2]).constants(0, &[3]);
-    let mut tables = vec![trials::p2(), two_arrays, limits::variables(256)];
-    tables.extend((0..1_000).map(|_| random::table(&mut random, &Plan::MIDDLE)));
-    for table in tables {
-        let rows = table.rows();
-        for record in 0..=rows.len() {
-            let place = Place::new(&rows, record);
-            let found: Vec<String> = (2..=6).flat_map(|n| faults::of(&place, n)).collect();
-            let text = || format!("record {record}\n{}", pretty(&table.bytes()));
-            assert_eq!(found, [""; 0], "{}", text());
-        }
-    }
-}
-
-/// A fault is found for the number that the check gives, and for none below it.
-#[test]
-fn damaged_tables_are_explained() {
-    let mut random = Random::new(21);
-    let plan = Plan {
-        wild: 5,
-        ..Plan::MIDDLE
-    };
-    for _ in 0..4_000 {
-        let table = random::table(&mut random, &plan);
-        let bytes = match random.below(3) {
-            0 => damage::scrambled(&mut random, &table),
-            _ => damage::damaged(&mut random, &table).bytes,
-        };
-        let refusal = match barfigol::check(&bytes) {
-            Err(refusal) if refusal.number > 1 => refusal,
-            _ => continue,
-        };
-        let rows = rows_of(&bytes);
-        let place = Place::new(&rows, refusal.record as usize);
-        for number in 2..=refusal.number {
-            let found = faults::of(&place, number);
-            let text = || format!("{found:?}\n{}", pretty(&bytes));
-            assert_eq!(found.is_empty(), number < refusal.number, "{}", text());
-        }
-    }
-}
-
-/// The first interval beyond the limit is at the record that translation names.
-#[test]
-fn intervals_agree_with_translation() {
-    let mut random = Random::new(22);
-    let plan = Plan {
-        wild: 30,
-        ..Plan::MIDDLE
-    };
-    let mut seen = 0;
-    for _ in 0..4_000 {
-        let table = random::table(&mut random, &plan);
-        let bytes = table.bytes();
-        let call = Call::Translate { choice: 3 };
-        let refused = refusal(call, &bytes).filter(|refusal| refusal.number == 8);
-        let record = refused.map(|refusal| refusal.record as usize);
-        let beyond = intervals::first_beyond(&table);
-        let found = beyond.map(|beyond| table.first_node_record() + beyond.node);
-        assert_eq!(found, record, "\n{}", pretty(&bytes));
-        seen += usize::from(record.is_some());
-    }
-    assert!(seen > 400, "number 8 came up {seen} times");
 }

@@ -80,8 +80,8 @@ pub fn rows_of(bytes: &[u8]) -> Vec<Row> {
 /// stand in hexadecimal on a line of their own.
 ///
 /// ```
-/// let table = barfigol_tables::Table::new().variable(0, 1).bytes();
-/// assert_eq!(barfigol_tables::pretty(&table), "HD 1 0 2 0\nVR 1 0 0 1\n");
+/// let table = barfigol_format::Table::new().variable(0, 1).bytes();
+/// assert_eq!(barfigol_format::pretty(&table), "HD 1 0 2 0\nVR 1 0 0 1\n");
 /// ```
 pub fn pretty(bytes: &[u8]) -> String {
     let mut text: String = rows_of(bytes).iter().map(Row::line).collect();
@@ -95,39 +95,12 @@ pub fn pretty(bytes: &[u8]) -> String {
 /// Bytes as hexadecimal digits, `-` for none.
 ///
 /// ```
-/// assert_eq!(barfigol_tables::hex(&[1, 255]), "01ff");
-/// assert_eq!(barfigol_tables::hex(&[]), "-");
+/// assert_eq!(barfigol_format::hex(&[1, 255]), "01ff");
+/// assert_eq!(barfigol_format::hex(&[]), "-");
 /// ```
 pub fn hex(bytes: &[u8]) -> String {
     if bytes.is_empty() {
         return String::from("-");
     }
     bytes.iter().map(|byte| format!("{byte:02x}")).collect()
-}
-
-/// The bytes that [`hex`] wrote, or `None` for other text.
-///
-/// ```
-/// assert_eq!(barfigol_tables::from_hex("01ff"), Some(vec![1, 255]));
-/// assert_eq!(barfigol_tables::from_hex("-"), Some(vec![]));
-/// assert_eq!(barfigol_tables::from_hex("0"), None);
-/// ```
-pub fn from_hex(text: &str) -> Option<Vec<u8>> {
-    if text == "-" {
-        return Some(Vec::new());
-    }
-    let digits: Option<Vec<u8>> = text
-        .chars()
-        .map(|letter| letter.to_digit(16).map(|digit| digit as u8))
-        .collect();
-    let digits = digits?;
-    if digits.len() % 2 != 0 {
-        return None;
-    }
-    Some(
-        digits
-            .chunks(2)
-            .map(|pair| pair[0] * 16 + pair[1])
-            .collect(),
-    )
 }

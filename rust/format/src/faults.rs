@@ -4,9 +4,12 @@
 //! before the record are sound and that the record has no fault of a lower
 //! number.
 
-use super::place::{numbered, spelled, Place};
-use barfigol_tables::kinds::{self, Field};
-use barfigol_tables::{Row, Type};
+use crate::kinds::{self, Field};
+use crate::limits::{
+    INDEX_LIMIT, MOST_ARRAYS, MOST_ELEMENTS, MOST_SLOTS, MOST_SLOT_VALUES, MOST_VARIABLES,
+};
+use crate::words::{numbered, spelled};
+use crate::{Place, Row, Type};
 
 /// The marks of each section, in order.
 const SECTIONS: [&[&[u8; 2]]; 6] = [
@@ -17,13 +20,6 @@ const SECTIONS: [&[&[u8; 2]]; 6] = [
     &[b"ND"],
     &[b"CN"],
 ];
-const MOST_VARIABLES: usize = 256;
-const MOST_SLOTS: usize = 16;
-const MOST_ARRAYS: usize = 64;
-const MOST_ELEMENTS: i32 = 1_024;
-const MOST_SLOT_VALUES: i64 = 10_000;
-/// Ends of slots and first indices stay within this distance of 0.
-const REACH: i32 = 1_000_000_000;
 
 /// All faults of a record that have this number.
 pub fn of(place: &Place, number: u32) -> Vec<String> {
@@ -56,8 +52,8 @@ impl Found {
 
     /// Notes a number that is further from 0 than an index may be.
     fn within_reach(&mut self, name: &str, value: i32) {
-        let holds = (-REACH..=REACH).contains(&value);
-        self.unless(holds, format!("{name} = {value} is beyond ±{REACH}"));
+        let holds = (-INDEX_LIMIT..=INDEX_LIMIT).contains(&value);
+        self.unless(holds, format!("{name} = {value} is beyond ±{INDEX_LIMIT}"));
     }
 
     /// Notes a record that is one too many.

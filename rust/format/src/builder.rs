@@ -174,7 +174,7 @@ impl Node {
 /// given, and the sections stand in their order whatever the order of calls.
 ///
 /// ```
-/// use barfigol_tables::{Node, Table};
+/// use barfigol_format::{Node, Table};
 ///
 /// // y in 0..1, y < 1.
 /// let table = Table::new()

@@ -1,9 +1,7 @@
 //! The intervals of integer nodes, up to the first beyond the limit.
 
-use barfigol_tables::{Element, Node, Slot, Table};
-
-/// Values and intervals stay within this distance of 0.
-pub const LIMIT: i64 = 2_000_000_000;
+use crate::limits::VALUE_LIMIT;
+use crate::{Element, Node, Slot, Table};
 
 /// A node whose interval is beyond the limit.
 #[derive(Clone, Copy, Debug, PartialEq, Eq)]
@@ -24,7 +22,7 @@ pub fn first_beyond(table: &Table) -> Option<Beyond> {
     let mut intervals: Vec<Interval> = Vec::new();
     for (number, &node) in table.nodes.iter().enumerate() {
         let (low, high) = interval(table, &intervals, node)?;
-        if low < -LIMIT || high > LIMIT {
+        if low < -VALUE_LIMIT || high > VALUE_LIMIT {
             let node = number;
             return Some(Beyond { node, low, high });
         }

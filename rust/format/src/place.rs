@@ -1,7 +1,7 @@
 //! A record of a table, and what stands before it.
 
-use barfigol_tables::{bytes_of, pretty, Row};
-use std::fmt::Display;
+use crate::words::spelled;
+use crate::{bytes_of, pretty, Row};
 
 /// A record number, and the rows of its table. The rows before the record are
 /// sound where it is the first faulty one.
@@ -94,19 +94,4 @@ impl<'a> Place<'a> {
             _ => record,
         }
     }
-}
-
-/// A mark as text, whatever its bytes are.
-pub fn spelled(mark: [u8; 2]) -> String {
-    let letters = mark
-        .iter()
-        .flat_map(|&byte| std::ascii::escape_default(byte));
-    letters.map(char::from).collect()
-}
-
-/// A count and what is counted, such as `1 step` and `2 steps`.
-pub fn numbered(count: impl Display, what: &str) -> String {
-    let count = count.to_string();
-    let ending = if count == "1" { "" } else { "s" };
-    format!("{count} {what}{ending}")
 }
