@@ -3,8 +3,9 @@
 //! beside the plain ones.
 
 use barfigol::raw::{self, Answer};
-use barfigol::{check, evaluate, translate, Choice, Evaluation, Reading, Refusal};
-use barfigol_tables::{Node, Table, ROW_BYTES};
+use barfigol::{check, evaluate, evaluate_into, translate, translate_into};
+use barfigol::{Choice, Evaluation, Reading, Refusal, Totals, Verdict};
+use barfigol_format::{Node, Table, ROW_BYTES};
 
 const FILL: u8 = 0xa5;
 
@@ -125,15 +126,25 @@ fn empty_slices() {
     // empty table is refused.
     let head = Table::new().bytes();
     for reading in Reading::ALL {
-        let expected = Evaluation {
+        let totals = Totals {
+            written: 0,
             steps: 0,
             all_true: true,
-            written: 0,
         };
-        assert_eq!(evaluate(reading, &head, &[], 0, &mut []), Ok(expected));
-        let refusal = translate(reading, &[], &mut []).unwrap_err();
-        assert_eq!((refusal.number, refusal.record), (1, 0));
-        assert_eq!(translate(reading, &head, &mut []).unwrap_err().number, 9);
+        let found = evaluate_into(reading, &head, &[], 0, &mut []);
+        assert_eq!(found, Ok(totals));
+        let evaluation = Evaluation {
+            verdicts: Vec::new(),
+            steps: 0,
+            all_true: true,
+        };
+        assert_eq!(evaluate(reading, &head, &[], 0), Ok(evaluation));
+        assert_eq!(evaluate(reading, &[], &[], 0), Err(Refusal::Length));
+        assert_eq!(translate(reading, &[]), Err(Refusal::Length));
+        let refusal = translate_into(reading, &[], &mut []);
+        assert_eq!(refusal, Err(Refusal::Length));
+        let refusal = translate_into(reading, &head, &mut []);
+        assert_eq!(refusal, Err(Refusal::Room));
     }
 }
 
@@ -142,28 +153,110 @@ fn readings_and_choices() {
     let choices = Reading::ALL.map(Choice::from);
     assert_eq!(choices, [Choice(1), Choice(2), Choice(3)]);
     let table = table().bytes();
-    let mut verdicts = [0; 3];
     let first = Reading::ALL.map(|reading| {
-        let found = evaluate(reading, &table, &INSIDE, 12, &mut verdicts);
-        assert_eq!(found.map(|found| found.written), Ok(3));
-        verdicts[0]
+        let found = evaluate(reading, &table, &INSIDE, 12).expect("a sound table");
+        assert_eq!(found.verdicts.len(), 3);
+        found.verdicts[0]
     });
-    assert_eq!(first, [2, 2, 1]);
+    let undefined = Verdict::Undefined;
+    assert_eq!(first, [undefined, undefined, Verdict::True]);
     for other in [0, 4, 257, 259, u32::MAX] {
-        let refusal = evaluate(Choice(other), &table, &INSIDE, 12, &mut verdicts);
-        let expected = Refusal {
-            number: 7,
-            record: 0,
+        let refusal = evaluate(Choice(other), &table, &INSIDE, 12);
+        assert_eq!(refusal, Err(Refusal::Choice));
+        assert_eq!(Reading::try_from(other), Err(Refusal::Choice));
+    }
+}
+
+#[test]
+fn words_and_numbers_of_readings() {
+    for reading in Reading::ALL {
+        let word = reading.to_string();
+        let number = reading.number();
+        let upper = word.to_uppercase();
+        let title = format!("{}{}", &upper[..1], &word[1..]);
+        for text in [word, upper, title, number.to_string()] {
+            assert_eq!(text.parse(), Ok(reading), "{text}");
+        }
+        assert_eq!(Reading::try_from(number), Ok(reading));
+    }
+    for text in [
+        "",
+        "0",
+        "4",
+        "01",
+        "+1",
+        "1 ",
+        " strict",
+        "strictly",
+        "klee\u{1b}[0m",
+    ] {
+        let error = text.parse::<Reading>().expect_err(text).to_string();
+        assert!(error.ends_with("is no reading: strict, kleene, relational, or 1 to 3"));
+        assert!(!error.chars().any(char::is_control), "{error:?}");
+    }
+}
+
+#[test]
+fn bytes_of_verdicts() {
+    for byte in 0..=u8::MAX {
+        let verdict = Verdict::from_byte(byte);
+        assert_eq!(
+            verdict.map(Verdict::byte),
+            Some(byte).filter(|&byte| byte < 3)
+        );
+    }
+    let words = Verdict::ALL.map(|verdict| verdict.to_string());
+    assert_eq!(words, ["false", "true", "undefined"]);
+}
+
+/// Which records go with a number: any, the head's number for none, or none.
+const NAMES_A_RECORD: [u32; 5] = [2, 3, 4, 5, 6];
+const MAY_NAME_A_RECORD: [u32; 2] = [8, 10];
+
+#[test]
+fn numbers_and_records_of_refusals() {
+    for number in 0..=13 {
+        for record in [0, 1, 2, 4_999, u32::MAX] {
+            let refusal = Refusal::new(number, record);
+            let pair = refusal.map(|refusal| (refusal.number(), refusal.record().unwrap_or(0)));
+            let known = (1..=11).contains(&number);
+            let names = NAMES_A_RECORD.contains(&number);
+            let may_name = MAY_NAME_A_RECORD.contains(&number);
+            let is_one = known && (record == 0 || names || may_name);
+            assert_eq!(pair, Some((number, record)).filter(|_| is_one));
+            if let Some(refusal) = refusal {
+                assert_eq!(refusal.record().is_some(), names || record != 0);
+            }
+        }
+    }
+}
+
+/// The variants have the names of the header's constants.
+#[test]
+fn names_of_refusals() {
+    let header = concat!(env!("CARGO_MANIFEST_DIR"), "/../../include/barfigol.h");
+    let header = std::fs::read_to_string(header).expect("the header");
+    for number in 1..=11 {
+        let refusal = Refusal::new(number, 0).expect("a refusal");
+        let name = format!("{refusal:?}");
+        let name = name.split(' ').next().unwrap_or("");
+        let constant = |line: &str| {
+            let (constant, value) = line.trim().trim_end_matches(',').split_once(" = ")?;
+            let value: u32 = value.parse().ok()?;
+            let words = constant.strip_prefix("BARFIGOL_")?.replace('_', "");
+            Some((words, value))
         };
-        assert_eq!(refusal, Err(expected));
+        let wanted = (name.to_uppercase(), number);
+        let found = header.lines().filter_map(constant).any(|it| it == wanted);
+        assert!(found, "{wanted:?}");
     }
 }
 
 #[test]
 fn every_number_has_a_sentence() {
-    let sentences: Vec<String> = (1..=11)
-        .map(|number| Refusal { number, record: 0 }.to_string())
-        .collect();
+    let refusals = (1..=11).filter_map(|number| Refusal::new(number, 0));
+    let sentences: Vec<String> = refusals.map(|refusal| refusal.to_string()).collect();
+    assert_eq!(sentences.len(), 11);
     for (place, sentence) in sentences.iter().enumerate() {
         assert!(sentence.starts_with(&format!("refused with {}", place + 1)));
         let reason = |text: &str| text.split(": ").nth(1).map(String::from);
@@ -172,12 +265,6 @@ fn every_number_has_a_sentence() {
     }
     let unsound = check(&[b'x'; 24]).unwrap_err().to_string();
     assert!(unsound.starts_with("refused with 2 at record 0: "));
-    let call = Refusal {
-        number: 11,
-        record: 0,
-    };
-    assert_eq!(
-        call.to_string(),
-        "refused with 11: the steps are more than the budget"
-    );
+    let call = Refusal::Budget.to_string();
+    assert_eq!(call, "refused with 11: the steps are more than the budget");
 }

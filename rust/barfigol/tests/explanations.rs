@@ -39,15 +39,15 @@ fn damaged_tables_are_explained() {
             _ => damage::damaged(&mut random, &table).bytes,
         };
         let refusal = match check(&bytes) {
-            Err(refusal) if refusal.number > 1 => refusal,
+            Err(refusal) if refusal.number() > 1 => refusal,
             _ => continue,
         };
         let rows = rows_of(&bytes);
-        let place = Place::new(&rows, refusal.record as usize);
-        for number in 2..=refusal.number {
+        let place = Place::new(&rows, refusal.record().expect("a record") as usize);
+        for number in 2..=refusal.number() {
             let found = faults::of(&place, number);
             let text = || format!("{found:?}\n{}", pretty(&bytes));
-            assert_eq!(found.is_empty(), number < refusal.number, "{}", text());
+            assert_eq!(found.is_empty(), number < refusal.number(), "{}", text());
         }
     }
 }
@@ -64,10 +64,10 @@ fn intervals_agree_with_translation() {
     for _ in 0..4_000 {
         let table = random::table(&mut random, &plan);
         let bytes = table.bytes();
-        let mut out = vec![0; barfigol::MOST_BYTES];
-        let refused = translate(Reading::Relational, &bytes, &mut out).err();
-        let refused = refused.filter(|refusal: &Refusal| refusal.number == 8);
-        let record = refused.map(|refusal| refusal.record as usize);
+        let record = match translate(Reading::Relational, &bytes) {
+            Err(Refusal::Limit { record }) => record.map(|record| record as usize),
+            _ => None,
+        };
         let beyond = intervals::first_beyond(&table);
         let found = beyond.map(|beyond| table.first_node_record() + beyond.node);
         assert_eq!(found, record, "\n{}", pretty(&bytes));
@@ -77,6 +77,7 @@ fn intervals_agree_with_translation() {
 }
 
 #[test]
-fn the_longest_table_is_the_same() {
+fn the_sizes_are_the_same() {
     assert_eq!(barfigol::MOST_BYTES, barfigol_format::limits::MOST_BYTES);
+    assert_eq!(barfigol::RECORD_BYTES, barfigol_format::ROW_BYTES);
 }

@@ -3,8 +3,8 @@
 use crate::arguments::{Point, Request, Source};
 use crate::explain::{explain, Call};
 use crate::files;
-use barfigol::{Choice, Refusal, MOST_BYTES};
-use barfigol_format::{pretty, ROW_BYTES};
+use barfigol::{Choice, Refusal};
+use barfigol_format::pretty;
 use std::io::{self, Write};
 use std::path::Path;
 
@@ -59,20 +59,13 @@ fn check(source: &Source, out: &mut dyn Write) -> Result<(), Stop> {
     Ok(())
 }
 
-/// The bytes of a translation.
-fn translation(choice: u32, table: &[u8]) -> Result<Vec<u8>, Refusal> {
-    let mut bytes = vec![0; MOST_BYTES];
-    let length = barfigol::translate(Choice(choice), table, &mut bytes)?;
-    bytes.truncate(length);
-    Ok(bytes)
-}
-
 fn list(choice: u32, source: &Source, out: &mut dyn Write) -> Result<(), Stop> {
     let table = table_of(source)?;
-    match translation(choice, &table) {
+    match barfigol::translate(Choice(choice), &table) {
         Ok(bytes) => out.write_all(pretty(&bytes).as_bytes())?,
         Err(refusal) => {
-            writeln!(out, "refused {} {}", refusal.number, refusal.record)?;
+            let (number, record) = (refusal.number(), refusal.record().unwrap_or(0));
+            writeln!(out, "refused {number} {record}")?;
             out.flush()?;
             return Err(refused(Call::Translate { choice }, &table, &refusal));
         }
@@ -82,7 +75,7 @@ fn list(choice: u32, source: &Source, out: &mut dyn Write) -> Result<(), Stop> {
 
 fn translate(choice: u32, source: &Source, path: &Path) -> Result<(), Stop> {
     let table = table_of(source)?;
-    let bytes = translation(choice, &table)
+    let bytes = barfigol::translate(Choice(choice), &table)
         .map_err(|refusal| refused(Call::Translate { choice }, &table, &refusal))?;
     files::replace(path, &bytes).map_err(Stop::Failed)
 }
@@ -90,9 +83,7 @@ fn translate(choice: u32, source: &Source, path: &Path) -> Result<(), Stop> {
 fn evaluate(choice: u32, source: &Source, point: &Point, out: &mut dyn Write) -> Result<(), Stop> {
     let table = table_of(source)?;
     let Point { assignment, budget } = point;
-    // There are never more constraints than records.
-    let mut verdicts = vec![0; table.len() / ROW_BYTES];
-    let answer = barfigol::evaluate(Choice(choice), &table, assignment, *budget, &mut verdicts);
+    let answer = barfigol::evaluate(Choice(choice), &table, assignment, *budget);
     let evaluation = answer.map_err(|refusal| {
         let call = Call::Evaluate {
             choice,
@@ -101,8 +92,8 @@ fn evaluate(choice: u32, source: &Source, point: &Point, out: &mut dyn Write) ->
         };
         refused(call, &table, &refusal)
     })?;
-    for &verdict in &verdicts[..evaluation.written] {
-        writeln!(out, "{}", word(verdict))?;
+    for verdict in evaluation.verdicts {
+        writeln!(out, "{verdict}")?;
     }
     writeln!(out, "steps {}", evaluation.steps)?;
     let all = if evaluation.all_true {
@@ -112,13 +103,4 @@ fn evaluate(choice: u32, source: &Source, point: &Point, out: &mut dyn Write) ->
     };
     writeln!(out, "{all} true")?;
     Ok(())
-}
-
-/// A verdict in words.
-fn word(verdict: u8) -> &'static str {
-    match verdict {
-        0 => "false",
-        1 => "true",
-        _ => "undefined",
-    }
 }

@@ -37,14 +37,15 @@ pub enum Call<'a> {
 /// The explanation of a refusal, in lines. The first one has the number, the
 /// record and the fault; then come the whole record and what the number means.
 pub fn explain(call: Call, table: &[u8], refusal: &Refusal) -> String {
-    let Refusal { number, record } = *refusal;
+    let number = refusal.number();
+    let fault = fault(call, table, refusal);
+    let meaning = format!("  number {number}: {}\n", refusal.reason());
+    let record = match refusal.record() {
+        Some(record) => record,
+        None => return format!("refused {number}: {fault}\n{meaning}"),
+    };
     let rows = rows_of(table);
     let place = Place::new(&rows, record as usize);
-    let fault = fault(call, table, &place, refusal);
-    let meaning = format!("  number {number}: {}\n", refusal.reason());
-    if !is_about_record(call, refusal) {
-        return format!("refused {number}: {fault}\n{meaning}");
-    }
     let title = place.title();
     let line = place
         .line()
@@ -53,9 +54,11 @@ pub fn explain(call: Call, table: &[u8], refusal: &Refusal) -> String {
 }
 
 /// What is at fault, or the sentence of the number where that is not found.
-fn fault(call: Call, table: &[u8], place: &Place, refusal: &Refusal) -> String {
-    let faults = match refusal.number {
-        2..=6 => faults::of(place, refusal.number),
+fn fault(call: Call, table: &[u8], refusal: &Refusal) -> String {
+    let faults = match (refusal.number(), refusal.record()) {
+        (number @ 2..=6, Some(record)) => {
+            faults::of(&Place::new(&rows_of(table), record as usize), number)
+        }
         _ => fault_of_call(call, table, refusal).into_iter().collect(),
     };
     if faults.is_empty() {
@@ -65,34 +68,23 @@ fn fault(call: Call, table: &[u8], place: &Place, refusal: &Refusal) -> String {
     }
 }
 
-/// Whether the record of a refusal is meant. Refusals of the call as a whole
-/// have record 0 too, which is no word about the head.
-fn is_about_record(call: Call, refusal: &Refusal) -> bool {
-    match (refusal.number, call) {
-        (2..=6, _) => true,
-        (8, Call::Translate { .. }) => true,
-        (10, _) => refusal.record != 0,
-        _ => false,
-    }
-}
-
 /// The fault of a refusal that no record of the table shows by itself.
 fn fault_of_call(call: Call, table: &[u8], refusal: &Refusal) -> Option<String> {
-    match (refusal.number, call) {
-        (1, _) => wrong_length(table.len()),
-        (7, Call::Translate { choice } | Call::Evaluate { choice, .. }) => Some(format!(
-            "{choice} is no reading: 1 strict, 2 kleene, 3 relational"
-        )),
-        (8, Call::Translate { .. }) => too_wide(table, refusal.record as usize),
-        (8, Call::Evaluate { .. }) => too_large(table),
-        (9, Call::Translate { .. }) => {
+    match (*refusal, call) {
+        (Refusal::Length, _) => wrong_length(table.len()),
+        (Refusal::Choice, Call::Translate { choice } | Call::Evaluate { choice, .. }) => Some(
+            format!("{choice} is no reading: 1 strict, 2 kleene, 3 relational"),
+        ),
+        (Refusal::Limit { record: Some(node) }, _) => too_wide(table, node as usize),
+        (Refusal::Limit { record: None }, _) => too_large(table),
+        (Refusal::Room, Call::Translate { .. }) => {
             Some(format!("the translation is longer than {MOST_BYTES} bytes"))
         }
-        (10, Call::Evaluate { assignment, .. }) => match refusal.record {
-            0 => wrong_count(table, assignment.len()),
-            record => outside(table, assignment, record as usize),
+        (Refusal::Assignment { record }, Call::Evaluate { assignment, .. }) => match record {
+            None => wrong_count(table, assignment.len()),
+            Some(record) => outside(table, assignment, record as usize),
         },
-        (11, Call::Evaluate { budget, .. }) => Some(too_long(table, budget)),
+        (Refusal::Budget, Call::Evaluate { budget, .. }) => Some(too_long(table, budget)),
         _ => None,
     }
 }

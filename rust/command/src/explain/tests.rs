@@ -20,14 +20,12 @@ fn with_head(rows: &[Row]) -> Vec<u8> {
 fn refusal(call: Call, table: &[u8]) -> Option<Refusal> {
     match call {
         Call::Check => barfigol::check(table).err(),
-        Call::Translate { choice } => {
-            barfigol::translate(Choice(choice), table, &mut vec![0; 60_000]).err()
-        }
+        Call::Translate { choice } => barfigol::translate(Choice(choice), table).err(),
         Call::Evaluate {
             choice,
             assignment,
             budget,
-        } => barfigol::evaluate(Choice(choice), table, assignment, budget, &mut [0; 9]).err(),
+        } => barfigol::evaluate(Choice(choice), table, assignment, budget).err(),
     }
 }
 
@@ -392,9 +390,12 @@ fn number_11() {
 #[test]
 fn a_number_that_does_not_fit_has_its_sentence() {
     let table = trials::p4().bytes();
-    for number in 0..=12 {
-        for record in [0, 1, 3, 7, 8, 9, u32::MAX] {
-            let refusal = Refusal { number, record };
+    for number in 1..=11 {
+        let records = [0, 1, 3, 7, 8, 9, u32::MAX];
+        for refusal in records
+            .iter()
+            .filter_map(|&record| Refusal::new(number, record))
+        {
             let sentence = format!("number {number}: {}\n", refusal.reason());
             for call in [Call::Check, Call::Translate { choice: 1 }, at(1, &[0], 9)] {
                 let text = explain(call, &table, &refusal);
