@@ -165,6 +165,36 @@ impl Node {
         }
     }
 
+    /// The free slots, one bit to a slot, after those of the nodes before it. A
+    /// number that names no earlier node, or no slot that a table may have, adds
+    /// none.
+    pub fn free_slots(self, before: &[u32]) -> u32 {
+        let of_node = |number: i32| {
+            let place = usize::try_from(number).ok();
+            place.and_then(|place| before.get(place)).copied()
+        };
+        let of_operands = self
+            .operands()
+            .into_iter()
+            .filter_map(of_node)
+            .fold(0, |all, of_operand| all | of_operand);
+        let slot = 1u32.checked_shl(self.x as u32).unwrap_or(0);
+        match self.fields() {
+            (Field::Slot, Field::Unused) => slot,
+            (Field::Slot, _) => of_operands & !slot,
+            _ => of_operands,
+        }
+    }
+
+    /// The node of an ND record.
+    pub const fn of_row(row: Row) -> Node {
+        Node {
+            kind: row.kind,
+            x: row.x,
+            y: row.y,
+        }
+    }
+
     fn row(self) -> Row {
         Row::new(b"ND", self.kind, self.x, self.y)
     }
@@ -333,11 +363,7 @@ impl Table {
     }
 
     fn with_row(mut self, row: &Row) -> Table {
-        let of = if row.kind == 0 {
-            Type::Bool
-        } else {
-            Type::Integer
-        };
+        let of = Type::of_kind(row.kind).unwrap_or(Type::Integer);
         let (low, high) = (row.x, row.y);
         match &row.mark {
             b"VR" => self.variables.push(Variable { of, low, high }),
@@ -352,11 +378,7 @@ impl Table {
                     array.elements.push(element);
                 }
             }
-            b"ND" => self.nodes.push(Node {
-                kind: row.kind,
-                x: row.x,
-                y: row.y,
-            }),
+            b"ND" => self.nodes.push(Node::of_row(*row)),
             b"CN" => self.constraints.push(row.x),
             _ => {}
         }

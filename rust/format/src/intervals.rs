@@ -14,6 +14,14 @@ pub struct Beyond {
     pub high: i64,
 }
 
+impl Beyond {
+    /// Says which values the node may take.
+    pub fn words(&self) -> String {
+        let Beyond { low, high, .. } = self;
+        format!("its values lie in {low}..{high}, beyond ±{VALUE_LIMIT}")
+    }
+}
+
 type Interval = (i64, i64);
 
 /// The first node of a sound table whose interval is beyond the limit. The

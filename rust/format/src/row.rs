@@ -1,9 +1,17 @@
 //! Records as rows of plain fields, faulty ones included.
 
+use crate::words::spelled;
+use std::fmt;
+
 /// The bytes of one record.
 pub const ROW_BYTES: usize = 12;
 
 /// One record, its fields taken apart and none of them tested.
+///
+/// ```
+/// let row = barfigol_format::Row::new(b"ND", 9, 0, 7);
+/// assert_eq!(row.to_string(), "ND 9 0 0 7");
+/// ```
 #[derive(Clone, Copy, Debug, PartialEq, Eq)]
 pub struct Row {
     /// The two letters of the mark.
@@ -47,15 +55,13 @@ impl Row {
             y: number(8),
         }
     }
+}
 
-    fn line(&self) -> String {
-        let mark: String = self
-            .mark
-            .iter()
-            .flat_map(|&letter| std::ascii::escape_default(letter))
-            .map(char::from)
-            .collect();
-        format!("{mark} {} {} {} {}\n", self.kind, self.aux, self.x, self.y)
+impl fmt::Display for Row {
+    /// Mark, kind, aux, x and y, as a listing has them.
+    fn fmt(&self, f: &mut fmt::Formatter<'_>) -> fmt::Result {
+        let mark = spelled(self.mark);
+        write!(f, "{mark} {} {} {} {}", self.kind, self.aux, self.x, self.y)
     }
 }
 
@@ -76,21 +82,40 @@ pub fn rows_of(bytes: &[u8]) -> Vec<Row> {
     bytes.chunks_exact(ROW_BYTES).map(Row::read).collect()
 }
 
+/// The bytes after the last whole record.
+pub fn rest_of(bytes: &[u8]) -> &[u8] {
+    bytes.chunks_exact(ROW_BYTES).remainder()
+}
+
 /// A table as lines such as `ND 9 0 0 7`. Bytes after the last whole record
-/// stand in hexadecimal on a line of their own.
+/// stand in hexadecimal on a line of their own. [`assemble`](crate::assemble)
+/// reads every such text back.
 ///
 /// ```
-/// let table = barfigol_format::Table::new().variable(0, 1).bytes();
-/// assert_eq!(barfigol_format::pretty(&table), "HD 1 0 2 0\nVR 1 0 0 1\n");
+/// use barfigol_format::{pretty, Table};
+///
+/// let mut table = Table::new().variable(0, 1).bytes();
+/// assert_eq!(pretty(&table), "HD 1 0 2 0\nVR 1 0 0 1\n");
+/// table.truncate(14);
+/// assert_eq!(pretty(&table), "HD 1 0 2 0\nbytes 5652\n");
 /// ```
 pub fn pretty(bytes: &[u8]) -> String {
-    let mut text: String = rows_of(bytes).iter().map(Row::line).collect();
-    let rest = bytes.chunks_exact(ROW_BYTES).remainder();
+    let rows = rows_of(bytes);
+    let mut text: String = rows.iter().map(|row| format!("{row}\n")).collect();
+    let rest = rest_of(bytes);
     if !rest.is_empty() {
-        text.push_str(&format!("and bytes {}\n", hex(rest)));
+        text.push_str(&format!("{}\n", rest_line(rest)));
     }
     text
 }
+
+/// The line for bytes that are no whole record.
+pub(crate) fn rest_line(rest: &[u8]) -> String {
+    format!("{REST_WORD} {}", hex(rest))
+}
+
+/// The first word of the line for bytes that are no whole record.
+pub(crate) const REST_WORD: &str = "bytes";
 
 /// Bytes as hexadecimal digits, `-` for none.
 ///

@@ -2,24 +2,34 @@
 
 use std::fmt::Display;
 
-/// A mark as text, whatever its bytes are.
+/// A mark as text, whatever its bytes are: a printable character of ASCII as
+/// itself, but for blank, `\` and `#`; another byte as `\x` and two hexadecimal
+/// digits.
 ///
 /// ```
-/// assert_eq!(barfigol_format::words::spelled(*b"ND"), "ND");
-/// assert_eq!(barfigol_format::words::spelled([0, 88]), "\\x00X");
+/// use barfigol_format::words::spelled;
+///
+/// assert_eq!(spelled(*b"ND"), "ND");
+/// assert_eq!(spelled([0, 88]), "\\x00X");
+/// assert_eq!(spelled(*b" #"), "\\x20\\x23");
 /// ```
 pub fn spelled(mark: [u8; 2]) -> String {
-    let letters = mark
-        .iter()
-        .flat_map(|&byte| std::ascii::escape_default(byte));
-    letters.map(char::from).collect()
+    mark.iter()
+        .map(|&byte| match byte {
+            b'\\' | b'#' => format!("\\x{byte:02x}"),
+            _ if byte.is_ascii_graphic() => char::from(byte).to_string(),
+            _ => format!("\\x{byte:02x}"),
+        })
+        .collect()
 }
 
 /// A count and what is counted.
 ///
 /// ```
-/// assert_eq!(barfigol_format::words::numbered(1, "step"), "1 step");
-/// assert_eq!(barfigol_format::words::numbered(2, "step"), "2 steps");
+/// use barfigol_format::words::numbered;
+///
+/// assert_eq!(numbered(1, "step"), "1 step");
+/// assert_eq!(numbered(2, "step"), "2 steps");
 /// ```
 pub fn numbered(count: impl Display, what: &str) -> String {
     let count = count.to_string();

@@ -293,14 +293,7 @@ impl Grower<'_> {
 
     fn push(&mut self, node: Node) -> i32 {
         let operands = node.operands();
-        let union = operands
-            .iter()
-            .fold(0, |union, &operand| union | self.free[operand as usize]);
-        self.free.push(match (node.fields(), node.bound_slot()) {
-            ((Field::Slot, Field::Unused), _) => 1 << node.x,
-            (_, Some(slot)) => union & !(1 << slot),
-            _ => union,
-        });
+        self.free.push(node.free_slots(&self.free));
         let below = operands
             .iter()
             .map(|&operand| self.depths[operand as usize]);

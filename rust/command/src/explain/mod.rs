@@ -11,7 +11,7 @@ use barfigol::Refusal;
 use barfigol_format::intervals::{self, Beyond};
 use barfigol_format::limits::{MOST_BYTES, VALUE_LIMIT};
 use barfigol_format::words::numbered;
-use barfigol_format::{cost, faults, rows_of, Place, Table, ROW_BYTES};
+use barfigol_format::{cost, faults, rows_of, title, Table};
 
 /// What the library was asked.
 #[derive(Clone, Copy, Debug)]
@@ -44,21 +44,17 @@ pub fn explain(call: Call, table: &[u8], refusal: &Refusal) -> String {
         Some(record) => record,
         None => return format!("refused {number}: {fault}\n{meaning}"),
     };
-    let rows = rows_of(table);
-    let place = Place::new(&rows, record as usize);
-    let title = place.title();
-    let line = place
-        .line()
-        .map_or(String::new(), |line| format!("  record {record}: {line}\n"));
+    let title = title(table, record as usize);
+    let line = rows_of(table)
+        .get(record as usize)
+        .map_or(String::new(), |row| format!("  record {record}: {row}\n"));
     format!("refused {number} at record {record} ({title}): {fault}\n{line}{meaning}")
 }
 
 /// What is at fault, or the sentence of the number where that is not found.
 fn fault(call: Call, table: &[u8], refusal: &Refusal) -> String {
-    let faults = match (refusal.number(), refusal.record()) {
-        (number @ 2..=6, Some(record)) => {
-            faults::of(&Place::new(&rows_of(table), record as usize), number)
-        }
+    let faults: Vec<String> = match refusal.number() {
+        1..=6 => faults_of_table(table, refusal),
         _ => fault_of_call(call, table, refusal).into_iter().collect(),
     };
     if faults.is_empty() {
@@ -68,10 +64,17 @@ fn fault(call: Call, table: &[u8], refusal: &Refusal) -> String {
     }
 }
 
+/// The faults of the table that have a refusal's number and record.
+fn faults_of_table(table: &[u8], refusal: &Refusal) -> Vec<String> {
+    let (number, record) = (refusal.number(), refusal.record());
+    let faults = faults::of_table(table).into_iter();
+    let meant = faults.filter(|fault| (fault.number, fault.record) == (number, record));
+    meant.map(|fault| fault.words).collect()
+}
+
 /// The fault of a refusal that no record of the table shows by itself.
 fn fault_of_call(call: Call, table: &[u8], refusal: &Refusal) -> Option<String> {
     match (*refusal, call) {
-        (Refusal::Length, _) => wrong_length(table.len()),
         (Refusal::Choice, Call::Translate { choice } | Call::Evaluate { choice, .. }) => Some(
             format!("{choice} is no reading: 1 strict, 2 kleene, 3 relational"),
         ),
@@ -89,33 +92,14 @@ fn fault_of_call(call: Call, table: &[u8], refusal: &Refusal) -> Option<String> 
     }
 }
 
-fn wrong_length(length: usize) -> Option<String> {
-    if length < ROW_BYTES {
-        Some(format!(
-            "{} of table, fewer than {ROW_BYTES}",
-            numbered(length, "byte")
-        ))
-    } else if length > MOST_BYTES {
-        Some(format!("more than {MOST_BYTES} bytes of table"))
-    } else if length % ROW_BYTES != 0 {
-        Some(format!(
-            "{length} bytes of table, no multiple of {ROW_BYTES}"
-        ))
-    } else {
-        None
-    }
-}
-
 /// The interval of the node at a record, where it is the first beyond the limit.
 fn too_wide(table: &[u8], record: usize) -> Option<String> {
     let table = Table::read(table);
-    let Beyond { node, low, high } = intervals::first_beyond(&table)?;
-    if table.first_node_record() + node != record {
+    let beyond = intervals::first_beyond(&table)?;
+    if table.first_node_record() + beyond.node != record {
         return None;
     }
-    Some(format!(
-        "its values lie in {low}..{high}, beyond ±{VALUE_LIMIT}"
-    ))
+    Some(beyond.words())
 }
 
 /// A node was met with a value beyond the limit. Which one it was is not told,
