@@ -1,6 +1,7 @@
 /*
  * Barfigol: checks a table of constraints, works its constraints out for one assignment, and translates it
- * into a table in which nothing is undefined. Link with libbarfigol.a.
+ * into a table in which nothing is undefined. Link with libbarfigol.a or libbarfigol.so; pkg-config calls it
+ * barfigol. The library is compiled for Linux on x86-64 and for nothing else.
  *
  * A table is a run of records of 12 bytes: mark (2 ASCII letters), kind, aux, x and y (signed 32 bits, low
  * byte first). Records are numbered from 0.
@@ -9,24 +10,33 @@
  *   - Its answer, and every byte it writes, depend on its arguments and the bytes they lend, and on nothing
  *     else. It keeps nothing between calls, so calls may run side by side on different buffers.
  *   - It takes no memory from the heap, reads and writes no global, calls nothing of the caller's, and always
- *     returns. It needs stack: see docs/BENCHMARKS.md.
+ *     returns. It needs stack, as much as is said below.
  *   - It reads the lent bytes of its const pointers and changes none of them.
  *   - A refusal writes no byte. A success writes from byte 0 of the output, `length` bytes in all, and leaves
  *     the bytes behind them as they were.
  *
  * What the caller owes, and nothing tests:
  *   - Each pointer is valid for the length given with it: bytes, or for an assignment numbers. An assignment
- *     is aligned for int32_t.
- *   - No pointer is NULL, even where its length is 0.
+ *     is aligned for int32_t. A pointer with length 0 is not used, and may be NULL.
  *   - The output does not overlap anything that the call reads, and nothing else writes the lent bytes while
  *     the call runs.
  */
 #ifndef BARFIGOL_H
 #define BARFIGOL_H
 
+#if !defined(__linux__) || !defined(__x86_64__) || defined(__ILP32__)
+#error "barfigol is compiled for Linux on x86-64 alone"
+#endif
+
 #include <stdbool.h>
 #include <stddef.h>
 #include <stdint.h>
+
+/* The version of the library, of this header and of the command. */
+#define BARFIGOL_VERSION "0.1.0"
+#define BARFIGOL_VERSION_MAJOR 0
+#define BARFIGOL_VERSION_MINOR 1
+#define BARFIGOL_VERSION_PATCH 0
 
 #ifdef __cplusplus
 extern "C" {
@@ -73,6 +83,15 @@ enum { BARFIGOL_STRICT = 1, BARFIGOL_KLEENE = 2, BARFIGOL_RELATIONAL = 3 };
 
 /* The bytes of the longest table that is read or written. */
 #define BARFIGOL_MOST_BYTES 60000
+
+/*
+ * The bytes of stack that a call takes at most, whatever it is given: measured on the compiled library and
+ * rounded up. An evaluation takes 112,000 bytes and 224 more for each level of nodes above nodes, of which a table
+ * has at most 4,998. So a thread with a stack of 2 MB has room for every call.
+ */
+#define BARFIGOL_CHECK_STACK 32000
+#define BARFIGOL_TRANSLATE_STACK 112000
+#define BARFIGOL_EVALUATE_STACK 1250000
 
 /* What a call gives back. A field that a call has nothing to say about is 0 or false. */
 typedef struct {

@@ -176,6 +176,44 @@ static void translate_calls(uint8_t *table)
     expect_answer("translate, then check", barfigol_check(out, LENGTH), (barfigol_answer){0});
 }
 
+/* A pointer with length 0 may be NULL, in every call, whether or not the call gets far enough to need what it has not. */
+static void null_calls(const uint8_t *table)
+{
+    static const uint8_t head[RECORD_BYTES] = {'H', 'D', 1, 0, 1};
+    static const int32_t inside[] = {10, 20, 1, 40};
+    uint8_t verdict = FILL;
+    expect_answer("check NULL", barfigol_check(NULL, 0), (barfigol_answer){.number = BARFIGOL_LENGTH});
+    for (uint32_t choice = 0; choice <= 3; choice++) {
+        uint32_t early = choice == 0 ? BARFIGOL_CHOICE : 0;
+        expect_answer("evaluate, all NULL", barfigol_evaluate(choice, NULL, 0, NULL, 0, 0, NULL, 0),
+                      (barfigol_answer){.number = early ? early : BARFIGOL_LENGTH});
+        expect_answer("evaluate a head, NULL", barfigol_evaluate(choice, head, sizeof head, NULL, 0, 0, NULL, 0),
+                      (barfigol_answer){.number = early, .all_true = !early});
+        expect_answer("evaluate, no assignment", barfigol_evaluate(choice, table, TABLE_BYTES, NULL, 0, 13, &verdict, 1),
+                      (barfigol_answer){.number = early ? early : BARFIGOL_ASSIGNMENT});
+        expect_answer("evaluate, no verdicts", barfigol_evaluate(choice, table, TABLE_BYTES, inside, 4, 13, NULL, 0),
+                      (barfigol_answer){.number = early ? early : BARFIGOL_ROOM});
+        expect_answer("translate, all NULL", barfigol_translate(choice, NULL, 0, NULL, 0),
+                      (barfigol_answer){.number = early ? early : BARFIGOL_LENGTH});
+        expect_answer("translate, no room", barfigol_translate(choice, table, TABLE_BYTES, NULL, 0),
+                      (barfigol_answer){.number = early ? early : BARFIGOL_ROOM});
+        expect_answer("translate a head, no room", barfigol_translate(choice, head, sizeof head, NULL, 0),
+                      (barfigol_answer){.number = early ? early : BARFIGOL_ROOM});
+    }
+    expect_filled("evaluate, no assignment", &verdict, 0, 1);
+}
+
+/* The version as text is the version as numbers. */
+static void version(void)
+{
+    char text[40];
+    snprintf(text, sizeof text, "%d.%d.%d", BARFIGOL_VERSION_MAJOR, BARFIGOL_VERSION_MINOR, BARFIGOL_VERSION_PATCH);
+    if (strcmp(text, BARFIGOL_VERSION) != 0) {
+        printf("version: %s in numbers, %s in text\n", text, BARFIGOL_VERSION);
+        failures++;
+    }
+}
+
 int main(void)
 {
     uint8_t table[TABLE_BYTES], before[TABLE_BYTES];
@@ -184,6 +222,8 @@ int main(void)
     check_calls(table);
     evaluate_calls(table);
     translate_calls(table);
+    null_calls(table);
+    version();
     expect_bytes("the table itself", table, before, sizeof table);
     if (failures == 0)
         puts("calls agree");

@@ -536,6 +536,10 @@ fn deep_chains(calls: &dyn Calls) {
             assert_eq!(calls.verdict(choice, &limits::chain_of_adds(4_900)), 1);
             assert_eq!(calls.verdict(choice, &limits::chain_of_foralls(4_900)), 1);
             assert_eq!(calls.verdict(choice, &limits::chain_of_types(4_900)), 1);
+            // The deepest that 5,000 records have room for.
+            assert_eq!(calls.verdict(choice, &limits::chain_of_nots(4_997)), 0);
+            assert_eq!(calls.verdict(choice, &limits::chain_of_adds(4_996)), 1);
+            assert_eq!(calls.verdict(choice, &limits::chain_of_foralls(4_996)), 1);
         }
     });
 }

@@ -69,11 +69,13 @@ pub fn rounds(usual: u64) -> u64 {
     }
 }
 
-/// Runs a trial of deep tables on a stack of eight million bytes, as a program
-/// has it. The threads of tests have less.
+/// The bytes of stack that suffice for every table, as the pages promise.
+const PROMISED_STACK: usize = 2_000_000;
+
+/// Runs a trial of deep tables on the stack that the pages promise to suffice.
 pub fn on_a_usual_stack(trial: &(dyn Fn() + Sync)) {
     std::thread::scope(|scope| {
-        let thread = std::thread::Builder::new().stack_size(8_000_000);
+        let thread = std::thread::Builder::new().stack_size(PROMISED_STACK);
         let handle = thread.spawn_scoped(scope, trial).expect("a thread");
         handle.join().expect("the trial passes");
     });
