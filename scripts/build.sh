@@ -37,7 +37,7 @@ build_archive() {
 
 build_program() {
     need cc gcc libc6-dev && need cargo cargo || exit 2
-    say "building the command, about a minute the first time"
+    say "building the command, less than a minute the first time"
     cd "$root/rust" && cargo build --release --offline -p barfigol_command >"$work/printed" 2>&1 ||
         build_failed cargo build --release --offline -p barfigol_command
     touch "$program"

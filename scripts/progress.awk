@@ -3,39 +3,37 @@
 # shown, how many lines were told before, which are left out; last, where the last line alone is wanted, told before or not.
 
 function tell(text) {
-    told = called ": " text ", " seconds " s so far"
+    told = called ": " seconds " s so far, " text
     if (++items > shown && !last) print told
 }
 
-# What a line says behind some words, up to its first colon or semicolon.
-function rest(line, from) {
-    line = substr(line, from)
-    sub(/[:;].*/, "", line)
-    sub(/ \([^)]*$/, "", line)
-    return line
+function tell_crate(name, what) {
+    tell("crate " ++crate " of " crates ": " name " " what)
 }
 
-/^rt: [A-Za-z0-9_]+ (proved \(|NOT PROVED)/ {
-    tell("crate " ++crate " of " crates ": " $2 " " rest($0, length("rt: " $2 " ") + 1))
-}
+/^rt: [A-Za-z0-9_]+ proved \(unchanged / { tell_crate($2, "unchanged") }
+/^rt: [A-Za-z0-9_]+ proved \([0-9]+ s\)/ { tell_crate($2, "proved in " substr($4, 2) " s") }
+/^rt: [A-Za-z0-9_]+ NOT PROVED/ { tell_crate($2, "NOT PROVED") }
 
+# The crate that a library is made of has no line of its own.
 /^rt: target\/staticlib\/lib[A-Za-z0-9_]+\.a has / {
     name = $2
     sub(/.*\/lib/, "", name)
     sub(/\.a$/, "", name)
-    tell("crate " ++crate " of " crates ": " name " proved, its archive written")
+    tell_crate(name, "proved, its archive written")
 }
 
 /^rt: must-fail / {
     name = $3
     sub(/:$/, "", name)
-    tell("edit " ++edit " of " edits ": " name " " rest($0, length("rt: must-fail " $3 " ") + 1))
+    what = $4 == "refused," ? "refused" : $4 " " $5
+    sub(/:$/, "", what)
+    tell("edit " ++edit " of " edits ": " name " " what)
 }
 
-/^rt: [A-Za-z0-9_]+ (ran|proved, and its run)/ {
-    tell("program " $2 ($3 == "ran" || $3 == "ran," ? " ran" : ": its run FAILED"))
-}
+/^rt: [A-Za-z0-9_]+ ran/ { tell("program " $2 " ran") }
+/^rt: [A-Za-z0-9_]+ proved, and its run FAILED/ { tell("program " $2 " FAILED") }
 
 END {
-    if (last) print items ? told : called ": crate 0 of " crates ", " seconds " s so far"
+    if (last) print items ? told : called ": " seconds " s so far, crate 0 of " crates
 }

@@ -23,7 +23,8 @@ on_terminal() {
 tell_progress() { # CRATES EDITS BEGAN
     set -- -v "called=$called" -v "crates=$1" -v "edits=$2" -v "seconds=$(($(date +%s) - $3))" -v "shown=$shown" -f "$root/scripts/progress.awk" "$work/printed"
     if on_terminal; then
-        printf '\r\033[K%s' "$(awk -v last=1 "$@")" >&2
+        # A line that is wider than the terminal could not be written again.
+        printf '\r\033[K%s' "$(awk -v last=1 "$@" | cut -c 1-79)" >&2
     else
         told=$(awk "$@")
         [ -n "$told" ] || return

@@ -50,7 +50,7 @@ play() { # NAME, the script on standard input
 # The commands of the machine that the scripts may use, and the players: rt waits after each crate until its progress is told.
 make_path() {
     mkdir "$made/bin"
-    for name in awk cat chmod cmp cp date dirname find grep head id ln mkdir mktemp readlink rm sed sh sleep sort tail touch tr uname wc; do
+    for name in awk cat chmod cmp cp cut date dirname find grep head id ln mkdir mktemp readlink rm sed sh sleep sort tail touch tr uname wc; do
         ln -s "$(command -v "$name")" "$made/bin/$name"
     done
     play cargo <<'END'
@@ -66,7 +66,9 @@ while [ $# -gt 1 ] && [ "$1" != -o ]; do shift; done
 printf '#!/bin/sh\ncat examples/c/p4.expected\n' >"$2"
 chmod +x "$2"
 END
-    play objdump </dev/null
+    for name in objdump c++ pkg-config; do
+        play "$name" </dev/null
+    done
     play rt <<'END'
 #!/bin/sh
 # Prints a line, and ends where it is not told within ten seconds.
@@ -90,19 +92,19 @@ staticlib)
         : >target/staticlib/libbarfigol.a
         exit 0
     fi
-    done_with "one proved (1 s)" "crate 1 of 3: one proved (1 s), [0-9]* s so far" >&2
-    done_with "two proved (unchanged since it was last proved)" "crate 2 of 3: two proved (unchanged since it was last proved), [0-9]* s so far" >&2
+    done_with "one proved (1 s)" "[0-9] s so far, crate 1 of 3: one proved in 1 s" >&2
+    done_with "two proved (unchanged since it was last proved)" "[0-9] s so far, crate 2 of 3: two unchanged" >&2
     [ "${FAIL:-0}" -eq 0 ] || exit "$FAIL"
     : >target/staticlib/libbarfigol.a
-    done_with "target/staticlib/libbarfigol.a has the functions of barfigol" "crate 3 of 3: barfigol proved"
+    done_with "target/staticlib/libbarfigol.a has the functions of barfigol" "[0-9] s so far, crate 3 of 3: barfigol proved, its archive written"
     ;;
 ci)
     rm -rf target
-    done_with "one proved (1 s)" "crate 1 of 3: one proved (1 s), [0-9]* s so far"
-    done_with "two proved (2 s)" "crate 2 of 3: two proved (2 s), [0-9]* s so far"
-    done_with "barfigol proved (2 s)" "crate 3 of 3: barfigol proved (2 s), [0-9]* s so far"
-    done_with "must-fail two/a: refused, as it must be (first at proofs/P.antt:3:4; 2 s)" "edit 1 of 2: two/a refused, as it must be, [0-9]* s so far"
-    done_with "must-fail two/b: NOT REFUSED: the crate is still proved with this edit (2 s)" "edit 2 of 2: two/b NOT REFUSED, [0-9]* s so far"
+    done_with "one proved (1 s)" "[0-9] s so far, crate 1 of 3: one proved in 1 s"
+    done_with "two proved (2 s)" "[0-9] s so far, crate 2 of 3: two proved in 2 s"
+    done_with "barfigol proved (2 s)" "[0-9] s so far, crate 3 of 3: barfigol proved in 2 s"
+    done_with "must-fail two/a: refused, as it must be (first at proofs/P.antt:3:4; 2 s)" "[0-9] s so far, edit 1 of 2: two/a refused"
+    done_with "must-fail two/b: NOT REFUSED: the crate is still proved with this edit (2 s)" "[0-9] s so far, edit 2 of 2: two/b NOT REFUSED"
     if [ "${FAIL:-0}" -ne 0 ]; then
         echo "4 passed, 1 failed"
         exit "$FAIL"
@@ -145,13 +147,17 @@ first_use() {
     run ./barfigol again
     ended "the second use" 7 $?
     [ ! -s "$made/told" ] || wrong "the second use tells something"
+    touch "$made/tree/crates/one/src/lib.rt"
+    run ./barfigol again
+    ended "the use after a change" 7 $?
+    [ "$(grep -c 'crate . of 3' "$made/told")" -eq 3 ] || wrong "after a change of the code nothing is proved"
 }
 
 on_a_terminal() {
     make_tree
     (cd "$made/tree" && PATH=$made/bin:$PATH TOLD=$made/told TERM=xterm script -qefc './barfigol check a.table' "$made/told") >"$made/out" 2>&1 </dev/null
     ended "the first use on a terminal" 7 $?
-    tr '\r' '\n' <"$made/out" | grep -q 'barfigol: crate 3 of 3: barfigol proved' || wrong "nothing is told on a terminal"
+    tr '\r' '\n' <"$made/out" | grep -q 'so far, crate 3 of 3: barfigol proved' || wrong "nothing is told on a terminal"
     [ "$(tr -d '\r' <"$made/out" | grep -c 'crate . of 3')" -eq 1 ] || wrong "progress takes more than a line on a terminal"
 }
 
