@@ -1,44 +1,52 @@
 //! The command `barfigol`: checks, lists, translates and evaluates table files.
 //!
-//! What is asked for is read in [`arguments`], done in [`run`], and a refusal
-//! is explained by [`explain`]. The answers themselves come from the library.
+//! The command line is described in [`description`] and read in [`words`]; what
+//! is asked for is done in [`run`], and a refusal is explained by [`explain`].
+//! The answers themselves come from the library.
 
 #![forbid(unsafe_code)]
 #![warn(missing_docs)]
 
-mod arguments;
+mod description;
+mod domains;
 mod explain;
-mod files;
+mod help;
+mod input;
+mod json;
+mod output;
+mod printable;
 mod run;
+mod status;
+mod suggest;
+mod words;
 
-use run::Stop;
+use output::Output;
+use status::{Status, Stop};
 use std::ffi::OsString;
-use std::io::{self, BufWriter, Write};
+use std::io::{self, Write};
 use std::process::ExitCode;
-
-const REFUSED: u8 = 1;
-const MISUSED: u8 = 2;
+use words::Misuse;
 
 fn main() -> ExitCode {
     let words: Vec<OsString> = std::env::args_os().skip(1).collect();
-    let done = arguments::read(&words)
-        .map_err(Stop::Misused)
-        .and_then(|request| run::run(request, &mut BufWriter::new(io::stdout())));
-    match done {
-        Ok(()) => ExitCode::SUCCESS,
-        Err(Stop::Refused(explanation)) => {
-            complain(&explanation);
-            ExitCode::from(REFUSED)
-        }
-        Err(Stop::Misused(what)) => {
-            complain(&format!("barfigol: {what} (see barfigol --help)\n"));
-            ExitCode::from(MISUSED)
-        }
-        Err(Stop::Failed(what)) => {
-            complain(&format!("barfigol: {what}\n"));
-            ExitCode::from(MISUSED)
-        }
-        Err(Stop::NobodyReads) => ExitCode::from(MISUSED),
+    let done = words::read(&words)
+        .map_err(misused)
+        .and_then(|request| run::run(request, &mut Output::new()));
+    let status = done.unwrap_or_else(|stop| {
+        complain(&stop.text);
+        stop.status
+    });
+    ExitCode::from(status as u8)
+}
+
+fn misused(misuse: Misuse) -> Stop {
+    let help = match misuse.about {
+        Some(command) => format!("barfigol help {}", command.name),
+        None => String::from("barfigol --help"),
+    };
+    Stop {
+        status: Status::Misused,
+        text: format!("barfigol: {} (see {help})\n", misuse.text),
     }
 }
 

@@ -5,20 +5,8 @@ mod common;
 use barfigol_tables::examples::faulty;
 use barfigol_tables::{limits, pretty, trials};
 use common::{assert_done, assert_misused, assert_refused, example, file, folder};
-use common::{run, run_with, text};
+use common::{names, run, run_with, text, INPUT};
 use std::fs;
-use std::path::Path;
-
-/// The names in a folder, sorted.
-fn names(folder: &Path) -> Vec<String> {
-    let entries = fs::read_dir(folder).expect("a folder");
-    let mut names: Vec<String> = entries
-        .map(|entry| entry.expect("an entry").file_name())
-        .map(|name| name.to_string_lossy().into_owned())
-        .collect();
-    names.sort();
-    names
-}
 
 #[test]
 fn a_translation_is_what_list_prints() {
@@ -55,7 +43,7 @@ fn a_refusal_leaves_out_as_it_was() {
     ];
     for (reading, table, explanation) in cases {
         let ran = run_with(&["translate", reading, "-", &out], &table);
-        assert_refused(&ran, "", explanation);
+        assert_refused(&ran, INPUT, "", explanation);
         assert_eq!(fs::read(&out).expect("a file"), b"as it was");
     }
     let fresh = folder.join("fresh.table");
@@ -105,23 +93,9 @@ fn what_is_no_file_is_not_replaced() {
     fs::create_dir(&inside).expect("a folder");
     let p4 = &example("p4.table");
     let ran = run(&["translate", "strict", p4, &text(&inside)]);
-    assert_misused(&ran, "not a regular file");
+    assert_misused(&ran, "it is a folder, and OUT is a file");
     let nowhere = text(&folder.join("nowhere").join("out.table"));
     assert_misused(&run(&["translate", "strict", p4, &nowhere]), &nowhere);
     assert_eq!(names(&folder), ["inside"]);
     assert_eq!(names(&inside), [""; 0]);
-}
-
-/// A pipe stands for everything that is neither file nor folder.
-#[cfg(unix)]
-#[test]
-fn a_device_is_not_replaced() {
-    let folder = folder("devices");
-    let pipe = folder.join("pipe");
-    let made = std::process::Command::new("mkfifo").arg(&pipe).status();
-    assert!(made.expect("mkfifo starts").success());
-    let ran = run(&["translate", "strict", &example("p4.table"), &text(&pipe)]);
-    assert_misused(&ran, "not a regular file");
-    assert_eq!(names(&folder), ["pipe"]);
-    assert!(!fs::metadata(&pipe).expect("the pipe").is_file());
 }

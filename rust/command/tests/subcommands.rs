@@ -4,9 +4,7 @@ mod common;
 
 use barfigol_tables::examples::faulty;
 use barfigol_tables::{limits, pretty, trials, Node, Table};
-use common::{assert_done, assert_refused, example, file, folder, run, run_with, COMMAND};
-use std::io::Write;
-use std::process::{Command, Stdio};
+use common::{assert_done, assert_no, assert_refused, example, file, folder, run, run_with, INPUT};
 
 const FAULT: &str = "refused 4 at record 4 (ND 9, node 2): y = 12 names no earlier node";
 
@@ -19,7 +17,8 @@ fn check_of_sound_and_faulty_tables() {
         );
     }
     assert_done(&run(&["check", &example("placement.table")]), "sound\n");
-    assert_refused(&run(&["check", &example("faulty.table")]), "", FAULT);
+    let faulty = &example("faulty.table");
+    assert_refused(&run(&["check", faulty]), faulty, "", FAULT);
 }
 
 #[test]
@@ -28,7 +27,7 @@ fn an_explanation_has_the_record_and_the_sentence() {
     let lines: Vec<&str> = ran.err.lines().collect();
     let record = "  record 4: ND 9 0 0 12";
     let sentence = "  number 4: a number names nothing, or no earlier node";
-    assert_eq!(lines, [FAULT, record, sentence]);
+    assert_eq!(lines, [&format!("{INPUT}: {FAULT}"), record, sentence]);
 }
 
 #[test]
@@ -42,10 +41,8 @@ fn standard_input_serves_every_subcommand() {
     assert_done(&run_with(&["translate", "strict", "-", &out], &table), "");
     assert_eq!(pretty(&std::fs::read(out).expect("a file")), listed.out);
     let verdict = "undefined\nsteps 6\nnot all true\n";
-    assert_done(
-        &run_with(&["evaluate", "strict", "-", "0"], &table),
-        verdict,
-    );
+    let ran = run_with(&["evaluate", "strict", "-", "0"], &table);
+    assert_no(&ran, verdict);
 }
 
 /// Document 01's lines for P4 under the relational reading.
@@ -67,6 +64,7 @@ fn list_prints_a_refusal_too() {
     let faulty = faulty().bytes();
     assert_refused(
         &run_with(&["list", "kleene", "-"], &faulty),
+        INPUT,
         "refused 4 4\n",
         FAULT,
     );
@@ -74,11 +72,13 @@ fn list_prints_a_refusal_too() {
     let seven = "refused 7: 259 is no reading: 1 strict, 2 kleene, 3 relational";
     assert_refused(
         &run_with(&["list", "259", "-"], &faulty),
+        INPUT,
         "refused 7 0\n",
         seven,
     );
     assert_refused(
         &run_with(&["list", "259", "-"], &[]),
+        INPUT,
         "refused 7 0\n",
         seven,
     );
@@ -87,6 +87,7 @@ fn list_prints_a_refusal_too() {
                  its values lie in 2000000001..2000000001, beyond ±2000000000";
     assert_refused(
         &run_with(&["list", "1", "-"], &large),
+        INPUT,
         "refused 8 1\n",
         eight,
     );
@@ -98,11 +99,15 @@ fn words_and_numbers_of_readings() {
     for (word, number) in [("strict", "1"), ("kleene", "2"), ("relational", "3")] {
         let listed = run(&["list", word, &path]);
         assert_eq!(listed.status, Some(0));
-        assert_eq!(run(&["list", number, &path]), listed);
+        let capital = word[..1].to_uppercase() + &word[1..];
+        for same in [number, &capital, &word.to_uppercase()] {
+            assert_eq!(run(&["list", same, &path]), listed);
+        }
     }
     for number in ["0", "4", "257", "4294967295"] {
         let seven = format!("refused 7: {number} is no reading: 1 strict, 2 kleene, 3 relational");
-        assert_refused(&run(&["evaluate", number, &path, "3"]), "", &seven);
+        let ran = run(&["evaluate", number, &path, "3"]);
+        assert_refused(&ran, &path, "", &seven);
     }
 }
 
@@ -110,16 +115,18 @@ fn words_and_numbers_of_readings() {
 fn evaluate_prints_verdicts_steps_and_all() {
     let path = example("p4.table");
     let expected = [
-        ("strict", "0", "undefined\nsteps 6\nnot all true\n"),
-        ("strict", "1", "false\nsteps 6\nnot all true\n"),
-        ("kleene", "0", "undefined\nsteps 6\nnot all true\n"),
-        ("relational", "0", "true\nsteps 6\nall true\n"),
+        ("strict", "0", "undefined"),
+        ("strict", "1", "false"),
+        ("kleene", "0", "undefined"),
     ];
-    for (reading, value, text) in expected {
-        assert_done(&run(&["evaluate", reading, &path, value]), text);
+    for (reading, value, verdict) in expected {
+        let ran = run(&["evaluate", reading, &path, value]);
+        assert_no(&ran, &format!("{verdict}\nsteps 6\nnot all true\n"));
     }
+    let ran = run(&["evaluate", "relational", &path, "0"]);
+    assert_done(&ran, "true\nsteps 6\nall true\n");
     let ran = run(&["evaluate", "kleene", &example("placement.table"), "2", "2"]);
-    assert_done(&ran, "true\nundefined\ntrue\nsteps 24\nnot all true\n");
+    assert_no(&ran, "true\nundefined\ntrue\nsteps 24\nnot all true\n");
 }
 
 #[test]
@@ -145,40 +152,29 @@ fn evaluate_takes_negative_values() {
 }
 
 #[test]
-fn the_budget_may_stand_anywhere() {
-    let path = example("placement.table");
-    let done = run(&["evaluate", "kleene", &path, "2", "0"]);
-    assert_done(&done, "true\ntrue\ntrue\nsteps 24\nall true\n");
-    let eleven = "refused 11: 24 steps needed, the budget is 23";
-    for place in 3..=5 {
-        let mut words = vec!["evaluate", "kleene", &path, "2", "0"];
-        words.splice(place..place, ["--budget", "24"]);
-        assert_eq!(run(&words), done);
-        words[place + 1] = "23";
-        assert_refused(&run(&words), "", eleven);
-    }
-}
-
-#[test]
 fn the_budget_is_the_greatest_if_not_given() {
     // Depth 30 takes 2^31 − 1 steps, which are not walked here; depth 31 takes
     // one fewer than 2^32, which is the budget; depth 32 is beyond it.
     let table = limits::doubling(32).bytes();
     let eleven = "refused 11: 8589934591 steps needed, the budget is 4294967295";
-    assert_refused(&run_with(&["evaluate", "strict", "-"], &table), "", eleven);
+    let ran = run_with(&["evaluate", "strict", "-"], &table);
+    assert_refused(&ran, INPUT, "", eleven);
 }
 
 #[test]
 fn refusals_of_an_evaluation() {
     let path = example("p4.table");
     let ten = "refused 10: 2 values given for 1 variable";
-    assert_refused(&run(&["evaluate", "strict", &path, "0", "0"]), "", ten);
+    let ran = run(&["evaluate", "strict", &path, "0", "0"]);
+    assert_refused(&ran, &path, "", ten);
     let ten = "refused 10 at record 1 (VR 1, variable 0): value -1 is outside the domain 0..1";
-    assert_refused(&run(&["evaluate", "strict", &path, "-1"]), "", ten);
+    let ran = run(&["evaluate", "strict", &path, "-1"]);
+    assert_refused(&ran, &path, "", ten);
     let large = limits::constant(2_000_000_001).bytes();
     let eight = "refused 8: a value is beyond ±2000000000; \
                  the first node that can pass the limit is node 0 (record 1)";
-    assert_refused(&run_with(&["evaluate", "2", "-"], &large), "", eight);
+    let ran = run_with(&["evaluate", "2", "-"], &large);
+    assert_refused(&ran, INPUT, "", eight);
 }
 
 #[test]
@@ -190,47 +186,10 @@ fn the_longest_table_passes_and_a_longer_one_is_not_cut() {
     for spare in [1, 12, 1_000_000] {
         let mut longer = longest.clone();
         longer.resize(60_000 + spare, 0);
-        assert_refused(&run_with(&["check", "-"], &longer), "", one);
+        assert_refused(&run_with(&["check", "-"], &longer), INPUT, "", one);
         let path = file(&folder("longer"), "longer.table", &longer);
-        assert_refused(&run(&["check", &path]), "", one);
-        assert_refused(&run(&["list", "1", &path]), "refused 1 0\n", one);
+        assert_refused(&run(&["check", &path]), &path, "", one);
+        let ran = run(&["list", "1", &path]);
+        assert_refused(&ran, &path, "refused 1 0\n", one);
     }
-}
-
-#[test]
-fn help_and_version() {
-    let help = run(&["--help"]);
-    assert_eq!((help.status, help.err.as_str()), (Some(0), ""));
-    for word in [
-        "check",
-        "list",
-        "translate",
-        "evaluate",
-        "--budget",
-        "Exit status",
-    ] {
-        assert!(help.out.contains(word), "{word}");
-    }
-    assert_eq!(run(&["check", "--help"]), help);
-    let version = format!("barfigol {}\n", env!("CARGO_PKG_VERSION"));
-    assert_done(&run(&["--version"]), &version);
-}
-
-/// The reader is gone before the command gets its table.
-#[test]
-fn nobody_reads() {
-    let mut child = Command::new(COMMAND)
-        .args(["list", "strict", "-"])
-        .stdin(Stdio::piped())
-        .stdout(Stdio::piped())
-        .stderr(Stdio::piped())
-        .spawn()
-        .expect("the command starts");
-    drop(child.stdout.take());
-    let mut pipe = child.stdin.take().expect("a pipe");
-    pipe.write_all(&trials::p4().bytes()).expect("a reader");
-    drop(pipe);
-    let output = child.wait_with_output().expect("the command ends");
-    assert_eq!(output.status.code(), Some(2));
-    assert!(output.stderr.is_empty());
 }

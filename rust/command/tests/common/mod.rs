@@ -2,13 +2,15 @@
 
 #![allow(dead_code)]
 
+pub mod json;
+
 use std::ffi::OsStr;
 use std::io::Write;
 use std::path::{Path, PathBuf};
 use std::process::{Command, Output, Stdio};
 
 /// The command under test.
-pub const COMMAND: &str = env!("CARGO_BIN_EXE_barfigol_command");
+pub const COMMAND: &str = env!("CARGO_BIN_EXE_barfigol");
 
 /// What a run gives.
 #[derive(Debug, PartialEq, Eq)]
@@ -50,18 +52,33 @@ pub fn run_with<S: AsRef<OsStr>>(words: &[S], input: &[u8]) -> Ran {
     child.wait_with_output().expect("the command ends").into()
 }
 
-/// Says that a run is done and prints a text.
-pub fn assert_done(ran: &Ran, out: &str) {
+/// Says that a run ends with a status, prints a text, and complains of nothing.
+pub fn assert_answer(ran: &Ran, status: i32, out: &str) {
     assert_eq!(
         (ran.status, ran.out.as_str(), ran.err.as_str()),
-        (Some(0), out, "")
+        (Some(status), out, "")
     );
 }
 
-/// Says that a run is refused, what it prints, and how it is explained.
-pub fn assert_refused(ran: &Ran, out: &str, explanation: &str) {
+/// Says that a run is done and prints a text.
+pub fn assert_done(ran: &Ran, out: &str) {
+    assert_answer(ran, 0, out);
+}
+
+/// Says that the answer of a run is no, and what it prints.
+pub fn assert_no(ran: &Ran, out: &str) {
+    assert_answer(ran, 3, out);
+}
+
+/// How standard input is called.
+pub const INPUT: &str = "standard input";
+
+/// Says that a run is refused: the source that is refused, what is printed, and
+/// how it is explained.
+pub fn assert_refused(ran: &Ran, source: &str, out: &str, explanation: &str) {
     assert_eq!((ran.status, ran.out.as_str()), (Some(1), out), "{ran:?}");
-    assert_eq!(ran.err.lines().next(), Some(explanation));
+    let line = format!("{source}: {explanation}");
+    assert_eq!(ran.err.lines().next(), Some(line.as_str()));
 }
 
 /// Says that a run is misuse, with a message that has a certain part.
@@ -70,6 +87,32 @@ pub fn assert_misused(ran: &Ran, part: &str) {
     assert!(ran.err.starts_with("barfigol: "), "{ran:?}");
     assert!(ran.err.contains(part), "{ran:?}");
     assert_eq!(ran.err.lines().count(), 1, "{ran:?}");
+}
+
+/// The names in a folder, sorted.
+pub fn names(folder: &Path) -> Vec<String> {
+    let entries = std::fs::read_dir(folder).expect("a folder");
+    let mut names: Vec<String> = entries
+        .map(|entry| entry.expect("an entry").file_name())
+        .map(|name| name.to_string_lossy().into_owned())
+        .collect();
+    names.sort();
+    names
+}
+
+/// Runs a line in a shell, with the command as `barfigol` on the path and in a
+/// certain folder.
+pub fn shell(folder: &Path, line: &str) -> Ran {
+    let bin = Path::new(COMMAND).parent().expect("a folder");
+    let path = std::env::var("PATH").unwrap_or_default();
+    Command::new("sh")
+        .args(["-c", line])
+        .current_dir(folder)
+        .env("PATH", format!("{}:{path}", text(bin)))
+        .stdin(Stdio::null())
+        .output()
+        .expect("a shell")
+        .into()
 }
 
 /// An empty folder for one test.
