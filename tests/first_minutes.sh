@@ -56,9 +56,8 @@ make_path() {
     play cargo <<'END'
 #!/bin/sh
 mkdir -p ../target/rust/release
-printf '#!/bin/sh\necho "the command: $*"\nexit 7\n' >../target/rust/release/barfigol_command
-cp ../target/rust/release/barfigol_command ../target/rust/release/barfigol
-chmod +x ../target/rust/release/barfigol*
+printf '#!/bin/sh\necho "the command: $*"\nexit 7\n' >../target/rust/release/barfigol
+chmod +x ../target/rust/release/barfigol
 END
     play cc <<'END'
 #!/bin/sh

@@ -3,6 +3,7 @@
  * constraint that 1 div y = 1 does not hold. At y = 0 the quotient is undefined.
  *
  * From the root: cc -Iinclude examples/c/p4.c target/staticlib/libbarfigol.a -o target/p4
+ * Installed: cc p4.c $(pkg-config --cflags --libs barfigol) -o p4
  */
 #include "barfigol.h"
 
