@@ -9,7 +9,7 @@ mod common;
 use barfigol_tables::{placement::placement, pretty, Node, Table};
 use common::{assert_done, example, folder, root, run, run_with, COMMAND};
 use std::fs;
-use std::path::Path;
+use std::path::{Path, PathBuf};
 use std::process::Command;
 
 /// A command of a page, and what it is said to print.
@@ -67,8 +67,10 @@ fn run_all(folder: &Path, said: &[Said]) -> Vec<String> {
     text.split_terminator('\u{1e}').map(String::from).collect()
 }
 
+/// Says that the commands of a page print what it says, and gives the folder
+/// that they ran in.
 #[cfg(unix)]
-fn assert_page(name: &str) {
+fn assert_page(name: &str) -> PathBuf {
     use std::os::unix::fs::symlink;
     let folder = folder(&name.replace('/', "-"));
     symlink(COMMAND, folder.join("barfigol")).expect("a link");
@@ -83,18 +85,30 @@ fn assert_page(name: &str) {
             assert_eq!(printed, said.printed, "{name}\n{}", said.command);
         }
     }
+    folder
+}
+
+/// Says that a folder has the command and the examples, and nothing else.
+#[cfg(unix)]
+fn assert_nothing_left(folder: &Path) {
+    let entries = fs::read_dir(folder).expect("the folder is there");
+    let mut names: Vec<_> = entries
+        .map(|entry| entry.expect("an entry").file_name())
+        .collect();
+    names.sort();
+    assert_eq!(names, ["barfigol", "examples"]);
 }
 
 #[cfg(unix)]
 #[test]
 fn the_page_of_the_placement_model() {
-    assert_page("docs/PLACEMENT.md");
+    assert_nothing_left(&assert_page("docs/PLACEMENT.md"));
 }
 
 #[cfg(unix)]
 #[test]
 fn the_page_of_the_readings() {
-    assert_page("docs/READINGS.md");
+    assert_nothing_left(&assert_page("docs/READINGS.md"));
 }
 
 #[cfg(unix)]
