@@ -43,12 +43,12 @@
 //!
 //! # Stack
 //!
-//! A call needs stack: [`check`] 32 kB, translation 112 kB, evaluation 112 kB
-//! and about 225 bytes more for each level that nodes lie below each other,
-//! which comes to 1,200 kB for a chain of 4,900 nodes. 2 MB, which a thread of
-//! Rust has unless another size is asked for, suffice for every table. Where
-//! the stack is used up the program is stopped. The figures are measured, and
-//! docs/BENCHMARKS.md has them in full.
+//! A call needs stack: [`check`] 32,000 bytes, translation 112,000, evaluation
+//! 112,000 and 224 more for each level of nodes above nodes, which comes to
+//! 1,250,000 for the deepest table. So 2 MB, which a thread of Rust has unless
+//! another size is asked for, suffice for every call. The figures are measured
+//! and rounded up; docs/BENCHMARKS.md tells how. Where a stack is used up the
+//! program is stopped.
 
 #![deny(unsafe_op_in_unsafe_fn)]
 #![warn(missing_docs)]

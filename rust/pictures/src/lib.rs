@@ -9,6 +9,7 @@
 
 mod answers;
 mod companions;
+mod layout;
 mod placements;
 mod svg;
 mod tree;
@@ -21,5 +22,6 @@ pub fn all() -> Vec<(&'static str, String)> {
         ("way.svg", way::picture()),
         ("p4-trees.svg", trees::picture()),
         ("placements.svg", placements::picture()),
+        ("table-layout.svg", layout::picture()),
     ]
 }

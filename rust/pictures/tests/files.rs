@@ -20,7 +20,11 @@ fn each_file_is_what_is_drawn() {
 
 #[test]
 fn each_picture_stands_on_a_page() {
-    let pages = [("README.md", "docs/"), ("docs/PLACEMENT.md", "")];
+    let pages = [
+        ("README.md", "docs/"),
+        ("docs/PLACEMENT.md", ""),
+        ("docs/TABLE.md", ""),
+    ];
     let shown = |name: &str| {
         pages.iter().any(|(page, folder)| {
             let text = std::fs::read_to_string(root().join(page)).expect(page);

@@ -1,0 +1,138 @@
+//! docs/TABLE.md says what the code has: kinds, refusals, limits, and the text
+//! of a table.
+
+use barfigol::{check, Refusal};
+use barfigol_format::kinds::KINDS;
+use barfigol_format::limits::{
+    INDEX_LIMIT, MOST_ARRAYS, MOST_BYTES, MOST_ELEMENTS, MOST_RECORDS, MOST_SLOTS,
+    MOST_SLOT_VALUES, MOST_VARIABLES, VALUE_LIMIT,
+};
+use barfigol_format::{assemble, show, ROW_BYTES};
+use std::fs;
+use std::path::{Path, PathBuf};
+
+fn root() -> PathBuf {
+    Path::new(env!("CARGO_MANIFEST_DIR")).join("../..")
+}
+
+fn text(name: &str) -> String {
+    fs::read_to_string(root().join(name)).expect(name)
+}
+
+/// The rows of the table whose first column has this head, each by its cells.
+fn rows_under(page: &str, head: &str) -> Vec<Vec<String>> {
+    let start = format!("| {head} |");
+    let lines = page.lines().skip_while(|line| !line.starts_with(&start));
+    let rows = lines.take_while(|line| line.starts_with('|')).skip(2);
+    // A stroke within a cell is written with a backslash before it.
+    let cells = |line: &str| {
+        let line = line.replace("\\|", "\u{1}");
+        let parts = line.trim_matches('|').split('|');
+        parts
+            .map(|cell| cell.trim().replace('\u{1}', "|"))
+            .collect()
+    };
+    rows.map(cells).collect()
+}
+
+/// The fenced blocks of a page that have a certain word after the fence.
+fn blocks(page: &str, word: &str) -> Vec<String> {
+    let fence = format!("\n```{word}\n");
+    let after = page.split(fence.as_str()).skip(1);
+    after
+        .map(|rest| rest.split("```").next().unwrap_or("").to_string())
+        .collect()
+}
+
+#[test]
+fn the_kinds_of_nodes() {
+    let rows = rows_under(&text("docs/TABLE.md"), "Kind");
+    let written: Vec<Vec<String>> = rows.iter().map(|row| row[..5].to_vec()).collect();
+    let kinds: Vec<Vec<String>> = KINDS
+        .iter()
+        .map(|kind| {
+            vec![
+                kind.number.to_string(),
+                kind.written("x", "y"),
+                kind.x.to_string(),
+                kind.y.to_string(),
+                kind.yields.to_string(),
+            ]
+        })
+        .collect();
+    assert_eq!(written, kinds);
+}
+
+#[test]
+fn the_numbers_of_refusals() {
+    let rows = rows_under(&text("docs/TABLE.md"), "Number");
+    let written: Vec<Vec<String>> = rows.iter().map(|row| row[..2].to_vec()).collect();
+    let refusals: Vec<Vec<String>> = (1..=11)
+        .map(|number| {
+            let refusal = Refusal::new(number, 0).expect("a refusal");
+            vec![number.to_string(), refusal.reason().to_string()]
+        })
+        .collect();
+    assert_eq!(written, refusals);
+}
+
+/// A number with commas between its thousands.
+fn grouped(number: i64) -> String {
+    if number < 1_000 {
+        return number.to_string();
+    }
+    format!("{},{:03}", grouped(number / 1_000), number % 1_000)
+}
+
+#[test]
+fn the_limits() {
+    let page = text("docs/TABLE.md");
+    let sentences = [
+        format!("records of {ROW_BYTES} bytes"),
+        format!(
+            "{} bytes: {} records",
+            grouped(MOST_BYTES as i64),
+            grouped(MOST_RECORDS as i64)
+        ),
+        format!("| at most {MOST_VARIABLES} VR |"),
+        format!(
+            "at most {MOST_SLOTS}, each of at most {} values",
+            grouped(MOST_SLOT_VALUES)
+        ),
+        format!(
+            "its elements, 1 to {} | at most {MOST_ARRAYS} |",
+            grouped(MOST_ELEMENTS.into())
+        ),
+        format!("lie within ±{}", grouped(INDEX_LIMIT.into())),
+        format!("goes beyond ±{}", grouped(VALUE_LIMIT)),
+    ];
+    for sentence in sentences {
+        assert!(page.contains(&sentence), "{sentence}");
+    }
+}
+
+/// The page's example is the file, and a sound table.
+#[test]
+fn the_table_by_hand() {
+    let blocks = blocks(&text("docs/TABLE.md"), "records");
+    assert_eq!(blocks, [text("examples/shelf.txt")]);
+    let table = assemble(&blocks[0]).expect("a table");
+    assert_eq!(check(&table), Ok(()));
+    assert_eq!(assemble(show(&table)), Ok(table));
+}
+
+/// Listings and notes of the other pages are texts of tables too.
+#[test]
+fn the_records_of_the_placement_model() {
+    let blocks = blocks(&text("docs/PLACEMENT.md"), "records");
+    assert_eq!(blocks.len(), 1);
+    let file = fs::read(root().join("examples/placement.table")).expect("a file");
+    assert_eq!(assemble(&blocks[0]), Ok(file));
+}
+
+#[test]
+fn lines_are_not_too_long() {
+    for (number, line) in text("docs/TABLE.md").lines().enumerate() {
+        assert!(line.chars().count() <= 160, "line {}", number + 1);
+    }
+}
