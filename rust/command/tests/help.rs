@@ -1,0 +1,303 @@
+//! Help, version, the man page and completions, which are made from one
+//! description.
+
+mod common;
+
+use common::{assert_done, assert_misused, example, run, Ran, COMMAND};
+use std::process::Command;
+
+/// The sub-commands, with a word of what each takes.
+const COMMANDS: [(&str, &str); 6] = [
+    ("check", "TABLE.."),
+    ("list", "READING TABLE"),
+    ("translate", "READING TABLE OUT"),
+    ("evaluate", "READING TABLE [VALUE..]"),
+    ("readings", "TABLE"),
+    ("help", "[COMMAND]"),
+];
+
+/// The options, with the sub-command that takes each.
+const OPTIONS: [(&str, &str); 6] = [
+    ("evaluate", "--budget"),
+    ("evaluate", "--assignments"),
+    ("check", "--json"),
+    ("readings", "--quiet"),
+    ("help", "--man"),
+    ("help", "--completions"),
+];
+
+fn printed(words: &[&str]) -> String {
+    let ran = run(words);
+    assert_eq!((ran.status, ran.err.as_str()), (Some(0), ""), "{words:?}");
+    ran.out
+}
+
+#[test]
+fn help_about_everything() {
+    let help = printed(&["--help"]);
+    for same in ["-h", "help"] {
+        assert_eq!(printed(&[same]), help);
+    }
+    for (name, takes) in COMMANDS {
+        assert!(help.contains(&format!("\n  barfigol {name} ")), "{name}");
+        assert!(help.contains(takes), "{takes}");
+        assert!(help.contains(&format!("\n  {name} ")), "{name}");
+    }
+    for (_, option) in OPTIONS {
+        assert!(help.contains(&format!("\n  {option}")) || help.contains(&format!(", {option}")));
+    }
+    for status in 0..=4 {
+        assert!(help.contains(&format!("\n  {status}  ")), "{status}");
+    }
+}
+
+#[test]
+fn help_about_one_command() {
+    for (name, takes) in COMMANDS {
+        let help = printed(&["help", name]);
+        for words in [
+            [name, "--help"],
+            [name, "-h"],
+            ["--help", name],
+            ["-h", name],
+        ] {
+            assert_eq!(printed(&words), help, "{words:?}");
+        }
+        assert!(help.starts_with(&format!("barfigol {name}: ")), "{help}");
+        assert!(
+            help.contains(takes) && help.contains("\nExit status:\n"),
+            "{help}"
+        );
+        let examples = help.split("\nExamples:\n").nth(1).expect("examples");
+        assert!(
+            examples.contains(&format!("barfigol {name} ")),
+            "{examples}"
+        );
+    }
+    for (name, option) in OPTIONS {
+        assert!(printed(&["help", name]).contains(option), "{option}");
+    }
+    // Help is given wherever it is asked for, also where other words are wrong.
+    let help = printed(&["help", "evaluate"]);
+    assert_eq!(printed(&["evaluate", "strict", "--help", "x"]), help);
+    assert_misused(&run(&["help", "solve"]), "'solve' is no command");
+    assert_misused(&run(&["help", "check", "list"]), "'list' is one too many");
+    assert_misused(&run(&["help", "check", "--man"]), "exclude each other");
+}
+
+#[test]
+fn no_line_is_too_long_for_a_terminal() {
+    let pages = COMMANDS.iter().map(|(name, _)| printed(&["help", name]));
+    for page in pages.chain([printed(&["help"])]) {
+        for line in page.lines() {
+            assert!(line.chars().count() < 80, "{line}");
+            assert_eq!(line.trim_end(), line);
+        }
+    }
+}
+
+#[test]
+fn name_and_version() {
+    let version = format!("barfigol {}\n", env!("CARGO_PKG_VERSION"));
+    assert_done(&run(&["--version"]), &version);
+    assert_done(&run(&["-V"]), &version);
+}
+
+/// The texts say `barfigol`, whatever the program is started as.
+#[test]
+fn started_under_another_name() {
+    let folder = common::folder("other-name");
+    let other = folder.join("other");
+    std::os::unix::fs::symlink(COMMAND, &other).expect("a link");
+    let ran: Ran = Command::new(&other)
+        .arg("--help")
+        .output()
+        .expect("starts")
+        .into();
+    assert_done(&ran, &printed(&["--help"]));
+    let ran: Ran = Command::new(&other).output().expect("starts").into();
+    assert_misused(&ran, "nothing is asked for (see barfigol --help)");
+}
+
+#[test]
+fn the_man_page_has_everything() {
+    let page = printed(&["help", "--man"]);
+    let version = env!("CARGO_PKG_VERSION");
+    let title = format!(".TH BARFIGOL 1 \"\" \"barfigol {version}\" \"User Commands\"\n");
+    assert!(page.starts_with(&title), "{page:.200}");
+    assert!(page.contains("\n.SH NAME\nbarfigol \\- "));
+    for section in [
+        "SYNOPSIS",
+        "DESCRIPTION",
+        "COMMANDS",
+        "OPERANDS",
+        "OPTIONS",
+        "EXIT STATUS",
+        "JSON",
+        "EXAMPLES",
+    ] {
+        assert!(page.contains(&format!("\n.SH {section}\n")), "{section}");
+    }
+    for (name, _) in COMMANDS {
+        assert!(page.contains(&format!("\n.SS {name}\n")), "{name}");
+        assert!(page.contains(&format!("\\fBbarfigol {name}\\fR")), "{name}");
+    }
+    for (_, option) in OPTIONS {
+        let roff = option.replace('-', "\\-");
+        assert!(page.contains(&format!("\\fB{roff}\\fR")), "{option}");
+    }
+}
+
+/// Every line is text or a request that is meant, and no dash is a hyphen.
+#[test]
+fn the_man_page_is_sound_roff() {
+    let requests = [
+        ".TH", ".SH", ".SS", ".TP", ".PP", ".br", ".nf", ".fi", ".nh", ".hy",
+    ];
+    let page = printed(&["help", "--man"]);
+    for line in page.lines().skip(1) {
+        if line.starts_with('.') || line.starts_with('\'') {
+            let request = line.split(' ').next().unwrap_or("");
+            assert!(requests.contains(&request), "{line}");
+        }
+        let mut escapes = line.split('\\').skip(1).peekable();
+        while let Some(escape) = escapes.next() {
+            let known = ["-", "e", "&", "fB", "fI", "fR"];
+            assert!(
+                known.iter().any(|known| escape.starts_with(known)),
+                "{line}"
+            );
+        }
+        assert!(!line.replace("\\-", "").contains('-'), "{line}");
+    }
+    // groff itself has nothing to say, where it is there.
+    let groff = common::shell(
+        &common::root(),
+        "command -v groff > /dev/null || exit 0; barfigol help --man | groff -man -ww -b -Tutf8 > /dev/null",
+    );
+    assert_done(&groff, "");
+}
+
+/// What bash completes for a line, in a folder with the file `p4.table`.
+fn completed(line: &[&str]) -> Vec<String> {
+    let folder = common::folder("completed");
+    common::file(&folder, "p4.table", &[]);
+    common::file(&folder, "a b", &[]);
+    let script = "source <(\"$1\" help --completions bash); shift; \
+                  COMP_WORDS=(\"$@\"); COMP_CWORD=$(($# - 1)); _barfigol; \
+                  printf '%s\\n' \"${COMPREPLY[@]}\"; complete -p barfigol >&2";
+    let ran: Ran = Command::new("bash")
+        .args(["--norc", "-c", script, "bash", COMMAND])
+        .args(line)
+        .current_dir(&folder)
+        .output()
+        .expect("bash starts")
+        .into();
+    assert_eq!(ran.err, "complete -F _barfigol barfigol\n");
+    let mut words: Vec<String> = ran.out.split_terminator('\n').map(String::from).collect();
+    words.retain(|word| !word.is_empty());
+    words.sort();
+    words
+}
+
+#[test]
+fn completions_for_bash() {
+    let readings = ["kleene", "relational", "strict"];
+    let files = ["a b", "p4.table"];
+    let cases: [(&[&str], &[&str]); 17] = [
+        (&["barfigol", "ch"], &["check"]),
+        (&["barfigol", "--v"], &["--version"]),
+        (&["barfigol", "list", ""], &readings),
+        (&["barfigol", "list", "re"], &["relational"]),
+        (&["barfigol", "list", "strict", ""], &files),
+        (&["barfigol", "list", "strict", "p4.table", ""], &[]),
+        (&["barfigol", "check", "p4.table", "a"], &["a b"]),
+        (&["barfigol", "check", "--j"], &["--json"]),
+        (&["barfigol", "list", "--j"], &[]),
+        (&["barfigol", "evaluate", "--budget", ""], &[]),
+        (&["barfigol", "evaluate", "--budget", "6", ""], &readings),
+        (
+            &["barfigol", "evaluate", "-q", "strict", "p"],
+            &["p4.table"],
+        ),
+        (
+            &["barfigol", "evaluate", "strict", "p4.table", "-7", ""],
+            &[],
+        ),
+        (
+            &["barfigol", "evaluate", "strict", "-", "--assignments", "p"],
+            &["p4.table"],
+        ),
+        (
+            &["barfigol", "translate", "strict", "-", "p"],
+            &["p4.table"],
+        ),
+        (&["barfigol", "help", "re"], &["readings"]),
+        (
+            &["barfigol", "help", "--completions", ""],
+            &["bash", "fish", "zsh"],
+        ),
+    ];
+    for (line, expected) in cases {
+        assert_eq!(completed(line), expected, "{line:?}");
+    }
+}
+
+/// The scripts for zsh and fish have every word, and their shells read them,
+/// where they are there.
+#[test]
+fn completions_for_zsh_and_fish() {
+    for (name, first) in [
+        ("zsh", "#compdef barfigol\n"),
+        ("fish", "# Completions of barfigol for fish.\n"),
+    ] {
+        let script = printed(&["help", "--completions", name]);
+        assert_eq!(printed(&["help", &format!("--completions={name}")]), script);
+        assert!(script.starts_with(first), "{name}");
+        for (command, _) in COMMANDS {
+            assert!(script.contains(command), "{command}");
+        }
+        for (_, option) in OPTIONS {
+            let word = option.trim_start_matches('-');
+            assert!(script.contains(word), "{option}");
+        }
+        for word in ["strict kleene relational", "bash zsh fish"] {
+            assert!(script.contains(word), "{word}");
+        }
+        let line = format!(
+            "command -v {name} > /dev/null || exit 0; barfigol help --completions {name} > s.{name} && {name} -n s.{name}"
+        );
+        assert_done(
+            &common::shell(&common::folder(&format!("script-{name}")), &line),
+            "",
+        );
+    }
+    assert_misused(
+        &run(&["help", "--completions", "csh"]),
+        "there are no completions for 'csh'",
+    );
+    assert_misused(
+        &run(&["help", "--completions"]),
+        "--completions takes SHELL",
+    );
+}
+
+/// Each example of the help is a command line that is understood.
+#[test]
+fn the_examples_are_understood() {
+    for (name, _) in COMMANDS {
+        let help = printed(&["help", name]);
+        let examples = help.split("\nExamples:\n").nth(1).expect("examples");
+        let folder = common::folder(&format!("examples-{name}"));
+        std::fs::create_dir(folder.join("tables")).expect("a folder");
+        let placement = std::fs::read(example("placement.table")).expect("a table");
+        common::file(&folder, "rules.table", &placement);
+        common::file(&folder, "tables/one.table", &placement);
+        common::file(&folder, "points.txt", b"2 0\n");
+        for line in examples.lines() {
+            let ran = common::shell(&folder, line);
+            assert_ne!(ran.status, Some(2), "{line}\n{ran:?}");
+            assert!(!ran.err.contains("barfigol: "), "{line}\n{ran:?}");
+        }
+    }
+}
