@@ -160,8 +160,7 @@ fn the_man_page_is_sound_roff() {
             let request = line.split(' ').next().unwrap_or("");
             assert!(requests.contains(&request), "{line}");
         }
-        let mut escapes = line.split('\\').skip(1).peekable();
-        while let Some(escape) = escapes.next() {
+        for escape in line.split('\\').skip(1) {
             let known = ["-", "e", "&", "fB", "fI", "fR"];
             assert!(
                 known.iter().any(|known| escape.starts_with(known)),
@@ -299,5 +298,50 @@ fn the_examples_are_understood() {
             assert_ne!(ran.status, Some(2), "{line}\n{ran:?}");
             assert!(!ran.err.contains("barfigol: "), "{line}\n{ran:?}");
         }
+    }
+}
+
+/// What fish completes, where it is there.
+#[test]
+fn completions_for_fish() {
+    let folder = common::folder("fish");
+    common::file(&folder, "p4.table", &[]);
+    let readings = "kleene\nrelational\nstrict\n";
+    for (line, expected) in [
+        ("barfigol list ", readings),
+        ("barfigol list strict p", "p4.table\n"),
+        ("barfigol evaluate --budget 6 ", readings),
+        ("barfigol evaluate strict p4.table -7 ", ""),
+        ("barfigol check p4.table p", "p4.table\n"),
+    ] {
+        let script = format!(
+            "command -v fish > /dev/null || {{ printf '%s' '{expected}'; exit 0; }}; \
+             barfigol help --completions fish > s.fish && \
+             HOME=$PWD fish -N -c 'source s.fish; complete -C \"{line}\"'"
+        );
+        assert_done(&common::shell(&folder, &script), expected);
+    }
+}
+
+/// The first page has the commands and the exit statuses of the help.
+#[test]
+fn the_first_page_has_every_command_and_status() {
+    let page = std::fs::read_to_string(common::root().join("README.md")).expect("the page");
+    let help = printed(&["--help"]);
+    for (name, _) in COMMANDS {
+        assert!(page.contains(&format!("| `./barfigol {name} ")), "{name}");
+    }
+    let statuses = help.split("\nExit status:\n").nth(1).expect("statuses");
+    let numbers = statuses
+        .lines()
+        .filter_map(|line| line.trim_start().split_once("  "));
+    let numbers: Vec<&str> = numbers.map(|(number, _)| number).collect();
+    assert_eq!(numbers, ["0", "1", "2", "3", "4"]);
+    for number in numbers {
+        assert_eq!(
+            page.matches(&format!("\n| {number} | ")).count(),
+            1,
+            "{number}"
+        );
     }
 }

@@ -3,7 +3,7 @@
 mod common;
 
 use barfigol_tables::{limits, trials};
-use common::{example, folder, shell, text, COMMAND};
+use common::{example, folder, shell, COMMAND};
 use std::io::Write;
 use std::process::{Command, Stdio};
 
@@ -75,6 +75,6 @@ fn the_head_of_a_listing() {
         (ran.status, ran.out.as_str(), ran.err.as_str()),
         (Some(0), "HD 1 0 2398 0\n", "")
     );
-    let status = std::fs::read_to_string(folder.join("status")).expect(&text(&folder));
+    let status = std::fs::read_to_string(folder.join("status")).expect("a status");
     assert_eq!(status, "0\n");
 }

@@ -52,6 +52,16 @@ fn a_dash_is_standard_output() {
     assert_eq!(names(&folder), ["log", "p4.table"]);
 }
 
+/// A refusal writes nothing to standard output either.
+#[test]
+fn a_refusal_leaves_standard_output_alone() {
+    let faulty = &example("faulty.table");
+    for out in ["-", "/dev/stdout"] {
+        let ran = run(&["translate", "strict", faulty, out]);
+        assert_eq!((ran.status, ran.out.as_str()), (Some(1), ""), "{out}");
+    }
+}
+
 /// The log keeps its line, however standard output is named.
 #[test]
 fn an_appended_log_is_kept() {

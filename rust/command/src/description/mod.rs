@@ -203,3 +203,66 @@ pub fn all_switches() -> Vec<Switch> {
     }
     all
 }
+
+#[cfg(test)]
+mod tests {
+    use super::{all_switches, Count, COMMANDS, HELP, OPERANDS, VERSION};
+
+    /// The parser takes operands by their place, so only the last may stand
+    /// several times or not at all.
+    #[test]
+    fn only_the_last_operand_may_vary() {
+        for command in &COMMANDS {
+            let last = command.operands.split_last();
+            let before = last.map_or(&[][..], |(_, before)| before);
+            assert!(before.iter().all(|operand| operand.count == Count::One));
+        }
+    }
+
+    #[test]
+    fn every_operand_is_described_once() {
+        for operand in COMMANDS.iter().flat_map(|command| command.operands) {
+            let same = OPERANDS.iter().filter(|known| known.name == operand.name);
+            let texts: Vec<&str> = same.map(|known| known.text).collect();
+            assert_eq!(texts, [operand.text]);
+        }
+    }
+
+    /// An option means the same wherever it stands, and no option is a number.
+    #[test]
+    fn every_option_has_one_meaning() {
+        let all = all_switches();
+        for switch in COMMANDS.iter().flat_map(|command| command.switches) {
+            let same = all.iter().filter(|known| known.long == switch.long);
+            let texts: Vec<&str> = same.map(|known| known.text).collect();
+            assert_eq!(texts, [switch.text]);
+        }
+        let letters: Vec<char> = all.iter().filter_map(|switch| switch.short).collect();
+        for (place, letter) in letters.iter().enumerate() {
+            assert!(letter.is_alphabetic() && !letters[..place].contains(letter));
+        }
+        for alone in [HELP, VERSION] {
+            assert!(alone.value.is_none());
+        }
+    }
+
+    #[test]
+    fn every_command_has_its_word_examples_and_statuses() {
+        for (place, command) in COMMANDS.iter().enumerate() {
+            let before = &COMMANDS[..place];
+            assert!(before.iter().all(|other| other.name != command.name));
+            assert!(before.iter().all(|other| other.task != command.task));
+            let called = format!("barfigol {} ", command.name);
+            assert!(command.examples.iter().any(|line| line.contains(&called)));
+            let numbers: Vec<u8> = command
+                .statuses
+                .iter()
+                .map(|(status, _)| *status as u8)
+                .collect();
+            assert!(
+                numbers.windows(2).all(|pair| pair[0] < pair[1]),
+                "{numbers:?}"
+            );
+        }
+    }
+}
