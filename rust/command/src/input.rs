@@ -46,6 +46,15 @@ pub fn table(source: &Source) -> Result<Vec<u8>, String> {
     start_of(source, MOST_BYTES + 1)
 }
 
+/// Reads a source that has at most so many bytes.
+pub fn whole(source: &Source, most: usize) -> Result<Vec<u8>, String> {
+    let bytes = start_of(source, most + 1)?;
+    if bytes.len() > most {
+        return Err(format!("it is longer than {most} bytes"));
+    }
+    Ok(bytes)
+}
+
 fn start_of(source: &Source, most: usize) -> Result<Vec<u8>, String> {
     let mut bytes = Vec::new();
     let read = open(source)?.take(most as u64).read_to_end(&mut bytes);

@@ -7,12 +7,14 @@ use common::{assert_done, assert_misused, example, run, Ran, COMMAND};
 use std::process::Command;
 
 /// The sub-commands, with a word of what each takes.
-const COMMANDS: [(&str, &str); 6] = [
+const COMMANDS: [(&str, &str); 8] = [
     ("check", "TABLE.."),
     ("list", "READING TABLE"),
     ("translate", "READING TABLE OUT"),
     ("evaluate", "READING TABLE [VALUE..]"),
     ("readings", "TABLE"),
+    ("show", "TABLE"),
+    ("assemble", "TEXT OUT"),
     ("help", "[COMMAND]"),
 ];
 
@@ -203,7 +205,7 @@ fn completed(line: &[&str]) -> Vec<String> {
 fn completions_for_bash() {
     let readings = ["kleene", "relational", "strict"];
     let files = ["a b", "p4.table"];
-    let cases: [(&[&str], &[&str]); 17] = [
+    let cases: [(&[&str], &[&str]); 19] = [
         (&["barfigol", "ch"], &["check"]),
         (&["barfigol", "--v"], &["--version"]),
         (&["barfigol", "list", ""], &readings),
@@ -231,6 +233,8 @@ fn completions_for_bash() {
             &["barfigol", "translate", "strict", "-", "p"],
             &["p4.table"],
         ),
+        (&["barfigol", "show", "p"], &["p4.table"]),
+        (&["barfigol", "assemble", "-", "p"], &["p4.table"]),
         (&["barfigol", "help", "re"], &["readings"]),
         (
             &["barfigol", "help", "--completions", ""],
@@ -293,6 +297,7 @@ fn the_examples_are_understood() {
         common::file(&folder, "rules.table", &placement);
         common::file(&folder, "tables/one.table", &placement);
         common::file(&folder, "points.txt", b"2 0\n");
+        common::file(&folder, "rules.txt", b"HD 1 0 ? 0\n");
         for line in examples.lines() {
             let ran = common::shell(&folder, line);
             assert_ne!(ran.status, Some(2), "{line}\n{ran:?}");

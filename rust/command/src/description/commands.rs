@@ -1,6 +1,6 @@
 //! The sub-commands.
 
-use super::operands::{COMMAND, OUT, READING, TABLE, TABLES, VALUE};
+use super::operands::{COMMAND, OUT, READING, TABLE, TABLES, TEXT, VALUE};
 use super::switches::{ASSIGNMENTS, BUDGET, COMPLETIONS, JSON_LINES, MAN, QUIET};
 use super::{SubCommand, Task};
 use crate::status::Status;
@@ -12,7 +12,9 @@ const MISUSED: (Status, &str) = (
 );
 
 /// All sub-commands, in the order of the help.
-pub const COMMANDS: [SubCommand; 6] = [CHECK, LIST, TRANSLATE, EVALUATE, READINGS, HELP];
+pub const COMMANDS: [SubCommand; 8] = [
+    CHECK, LIST, TRANSLATE, EVALUATE, READINGS, SHOW, ASSEMBLE, HELP,
+];
 
 const CHECK: SubCommand = SubCommand {
     name: "check",
@@ -103,6 +105,43 @@ const READINGS: SubCommand = SubCommand {
         (Status::CutOff, "the readings part at no assignment that was looked at, and the budget left some out"),
     ],
     examples: &["barfigol readings rules.table", "barfigol readings rules.table --budget 100000000"],
+};
+
+const SHOW: SubCommand = SubCommand {
+    name: "show",
+    task: Task::Show,
+    summary: "prints the records of a table with what they mean",
+    operands: &[TABLE],
+    switches: &[],
+    about: &[
+        "Takes any file of at most 1048576 bytes, sound or not, and marks faults in place. assemble makes the same bytes of the lines.",
+    ],
+    statuses: &[
+        (Status::Done, "the records are printed, whether the table is sound or not"),
+        MISUSED,
+    ],
+    examples: &["barfigol show rules.table"],
+};
+
+const ASSEMBLE: SubCommand = SubCommand {
+    name: "assemble",
+    task: Task::Assemble,
+    summary: "makes a table of lines as show and list print them",
+    operands: &[TEXT, OUT],
+    switches: &[],
+    about: &[
+        "A line is mark, kind, aux, x and y. What follows # or, behind y, two spaces or a tab is a comment. The x of HD may be ? for the number of records.",
+        "The table is written as the text says, and is not checked. A text that is not understood is refused with its file and line, and OUT stays as it was.",
+    ],
+    statuses: &[
+        (Status::Done, "the table is written"),
+        (Status::Refused, "the text is refused, as explained on standard error"),
+        MISUSED,
+    ],
+    examples: &[
+        "barfigol assemble rules.txt rules.table",
+        "barfigol assemble rules.txt - | barfigol check -",
+    ],
 };
 
 const HELP: SubCommand = SubCommand {

@@ -42,6 +42,10 @@ pub enum Task {
     Evaluate,
     /// Tells where the readings part.
     Readings,
+    /// Prints a table with what its records mean.
+    Show,
+    /// Makes a table of a text.
+    Assemble,
     /// Prints help.
     Help,
 }

@@ -41,6 +41,14 @@ pub const VALUE: Operand = Operand {
     text: "One signed number for each variable, in the table's order.",
 };
 
+/// A table as text.
+pub const TEXT: Operand = Operand {
+    name: "TEXT",
+    count: Count::One,
+    fills: Fills::File,
+    text: "A file of lines as show and list print them, or - for standard input.",
+};
+
 /// The word of a sub-command.
 pub const COMMAND: Operand = Operand {
     name: "COMMAND",
@@ -50,4 +58,4 @@ pub const COMMAND: Operand = Operand {
 };
 
 /// Every operand, each once.
-pub const OPERANDS: [Operand; 5] = [READING, TABLE, OUT, VALUE, COMMAND];
+pub const OPERANDS: [Operand; 6] = [READING, TABLE, OUT, VALUE, TEXT, COMMAND];

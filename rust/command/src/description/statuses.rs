@@ -7,7 +7,7 @@ pub const STATUSES: [(Status, &str); 5] = [
     (Status::Done, "done; for evaluate: all true; for readings: they part nowhere"),
     (
         Status::Refused,
-        "refused by the library, with its number and record",
+        "refused: a table by the library, with its number and record, or a text by assemble",
     ),
     (Status::Misused, "misuse, or a file cannot be read or written"),
     (

@@ -4,6 +4,7 @@ mod check;
 mod evaluate;
 mod lines;
 mod readings;
+mod text;
 mod translate;
 
 use crate::explain::{explain, Call};
@@ -27,6 +28,8 @@ pub fn run(request: Request, out: &mut Output) -> Result<Status, Stop> {
         Request::Translate(choice, table, target) => translate::write(choice, &table, &target, out),
         Request::Evaluate(evaluation) => evaluate::run(&evaluation, out),
         Request::Readings(table, budget, report) => readings::run(&table, budget, report, out),
+        Request::Show(table) => text::show(&table, out),
+        Request::Assemble(text, target) => text::assemble(&text, &target, out),
     }
 }
 

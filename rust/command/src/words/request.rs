@@ -106,6 +106,10 @@ pub enum Request {
     Evaluate(Evaluate),
     /// Where the readings part, with a budget.
     Readings(Source, u32, Report),
+    /// A table as text.
+    Show(Source),
+    /// A table of a text.
+    Assemble(Source, Target),
 }
 
 /// What the words of a sub-command ask for.
@@ -123,6 +127,8 @@ pub fn of(split: &Split) -> Result<Request, String> {
             let budget = steps(split)?.unwrap_or(BUDGET_OF_READINGS);
             Ok(Request::Readings(source(table), budget, report(split)?))
         }
+        (Task::Show, [table]) => Ok(Request::Show(source(table))),
+        (Task::Assemble, [text, out]) => Ok(Request::Assemble(source(text), target(out))),
         (Task::Check, tables) => {
             let tables: Vec<Source> = tables.iter().map(|table| source(table)).collect();
             once(&tables)?;
