@@ -180,6 +180,7 @@ static void translate_calls(uint8_t *table)
 static void null_calls(const uint8_t *table)
 {
     static const uint8_t head[RECORD_BYTES] = {'H', 'D', 1, 0, 1};
+    static const uint8_t variable[2 * RECORD_BYTES] = {'H', 'D', 1, 0, 2, 0, 0, 0, 0, 0, 0, 0, 'V', 'R', 1, 0, 10, 0, 0, 0, 10};
     static const int32_t inside[] = {10, 20, 1, 40};
     uint8_t verdict = FILL;
     expect_answer("check NULL", barfigol_check(NULL, 0), (barfigol_answer){.number = BARFIGOL_LENGTH});
@@ -188,6 +189,9 @@ static void null_calls(const uint8_t *table)
         expect_answer("evaluate, all NULL", barfigol_evaluate(choice, NULL, 0, NULL, 0, 0, NULL, 0),
                       (barfigol_answer){.number = early ? early : BARFIGOL_LENGTH});
         expect_answer("evaluate a head, NULL", barfigol_evaluate(choice, head, sizeof head, NULL, 0, 0, NULL, 0),
+                      (barfigol_answer){.number = early, .all_true = !early});
+        expect_answer("evaluate, no constraint",
+                      barfigol_evaluate(choice, variable, sizeof variable, inside, 1, 0, NULL, 0),
                       (barfigol_answer){.number = early, .all_true = !early});
         expect_answer("evaluate, no assignment", barfigol_evaluate(choice, table, TABLE_BYTES, NULL, 0, 13, &verdict, 1),
                       (barfigol_answer){.number = early ? early : BARFIGOL_ASSIGNMENT});
