@@ -113,6 +113,12 @@ fn the_page_of_the_readings() {
 
 #[cfg(unix)]
 #[test]
+fn the_page_of_the_table() {
+    assert_nothing_left(&assert_page("docs/TABLE.md"));
+}
+
+#[cfg(unix)]
+#[test]
 fn the_first_page() {
     assert_page("README.md");
 }
