@@ -43,6 +43,15 @@ build_program() {
     touch "$program"
 }
 
+# Waits until no other call builds: two at once would write the same files.
+be_alone() {
+    mkdir -p "$root/target" && exec 9>"$root/target/building" || exit 2
+    command -v flock >/dev/null 2>&1 || return 0
+    flock -n 9 && return
+    say "waiting for another call that builds"
+    flock 9
+}
+
 # Builds what is stale, in a shell of its own: the folder of the one who called stays.
 build() {
     archive_is_stale || program_is_stale || return 0
@@ -50,6 +59,7 @@ build() {
         work=$(mktemp -d) || exit 2
         trap 'rm -rf "$work"' EXIT
         trap 'exit 130' INT TERM
+        be_alone
         if archive_is_stale; then build_archive; fi
         if program_is_stale; then build_program; fi
     )

@@ -50,7 +50,7 @@ play() { # NAME, the script on standard input
 # The commands of the machine that the scripts may use, and the players: rt waits after each crate until its progress is told.
 make_path() {
     mkdir "$made/bin"
-    for name in awk cat chmod cmp cp cut date dirname find grep head id ln mkdir mktemp readlink rm sed sh sleep sort tail touch tr uname wc; do
+    for name in awk cat chmod cmp cp cut date dirname find flock grep head id ln mkdir mktemp readlink rm sed sh sleep sort tail touch tr uname wc; do
         ln -s "$(command -v "$name")" "$made/bin/$name"
     done
     play cargo <<'END'
@@ -86,6 +86,7 @@ done_with() { # LINE TOLD
 case $1 in
 version) echo "${VERSION:-rattle-kit-5b} logic 0" ;;
 staticlib)
+    echo staticlib >>calls
     mkdir -p target/staticlib
     if [ -e target/proved ]; then
         : >target/staticlib/libbarfigol.a
@@ -150,6 +151,20 @@ first_use() {
     run ./barfigol again
     ended "the use after a change" 7 $?
     [ "$(grep -c 'crate . of 3' "$made/told")" -eq 3 ] || wrong "after a change of the code nothing is proved"
+}
+
+# Of two first uses at the same time, one proves and the other waits for it.
+two_at_once() {
+    make_tree
+    : >"$made/told"
+    for use in one other; do
+        (cd "$made/tree" && PATH=$made/bin TOLD=$made/told ./barfigol "$use") >>"$made/told" 2>&1 &
+    done
+    wait
+    has "$made/told" "the command: one"
+    has "$made/told" "the command: other"
+    has "$made/told" "barfigol: waiting for another call that builds"
+    [ "$(wc -l <"$made/tree/calls")" -eq 1 ] || wrong "two first uses at once prove twice"
 }
 
 on_a_terminal() {
@@ -218,6 +233,7 @@ on_the_first_page() {
 make_path
 without_rt
 first_use
+two_at_once
 on_a_terminal
 proofs_that_fail
 another_version
