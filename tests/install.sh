@@ -27,7 +27,7 @@ install_all() {
     done <"$made/said"
     files_below "$prefix" >"$made/files"
     sed "s|^$prefix|.|" "$made/said" | sort | cmp - "$made/files" || stop "other files were written than named"
-    for file in bin/barfigol include/barfigol.h lib/libbarfigol.a "lib/$soname" lib/libbarfigol.so lib/pkgconfig/barfigol.pc share/man/man1/barfigol.1; do
+    for file in bin/barfigol include/barfigol.h lib/libbarfigol.a "lib/$soname" lib/libbarfigol.so lib/pkgconfig/barfigol.pc share/man/man1/barfigol.1 share/doc/barfigol/TABLE.md; do
         grep -qxF "./$file" "$made/files" || stop "$file is not installed"
     done
 }
@@ -95,6 +95,17 @@ use_command() {
     done
 }
 
+# What the installed pages name by a link is installed too.
+look_at_pages() {
+    cd "$prefix/share/doc/barfigol" || stop "no pages are installed"
+    names=$(sed -n 's/.*](\([^)#]*\)).*/\1/p' ./*.md | grep -v '^https\{0,1\}:' | sort -u)
+    [ -n "$names" ] || stop "the installed pages have no links"
+    for name in $names; do
+        [ -s "$name" ] || stop "the installed pages name $name, which is not there"
+    done
+    cd "$OLDPWD" || exit 1
+}
+
 # What others put beside the files stays, and a second time is no failure.
 uninstall() {
     : >"$prefix/lib/other.a"
@@ -119,5 +130,6 @@ install_package
 use_from_c
 look_at_shared
 use_command
+look_at_pages
 uninstall
 misuses
