@@ -201,47 +201,50 @@ fn completed(line: &[&str]) -> Vec<String> {
     words
 }
 
+const READINGS: [&str; 3] = ["kleene", "relational", "strict"];
+const FILES: [&str; 2] = ["a b", "p4.table"];
+
+/// Lines, and the words that can stand at their end.
+const COMPLETED: [(&[&str], &[&str]); 19] = [
+    (&["barfigol", "ch"], &["check"]),
+    (&["barfigol", "--v"], &["--version"]),
+    (&["barfigol", "list", ""], &READINGS),
+    (&["barfigol", "list", "re"], &["relational"]),
+    (&["barfigol", "list", "strict", ""], &FILES),
+    (&["barfigol", "list", "strict", "p4.table", ""], &[]),
+    (&["barfigol", "check", "p4.table", "a"], &["a b"]),
+    (&["barfigol", "check", "--j"], &["--json"]),
+    (&["barfigol", "list", "--j"], &[]),
+    (&["barfigol", "evaluate", "--budget", ""], &[]),
+    (&["barfigol", "evaluate", "--budget", "6", ""], &READINGS),
+    (
+        &["barfigol", "evaluate", "-q", "strict", "p"],
+        &["p4.table"],
+    ),
+    (
+        &["barfigol", "evaluate", "strict", "p4.table", "-7", ""],
+        &[],
+    ),
+    (
+        &["barfigol", "evaluate", "strict", "-", "--assignments", "p"],
+        &["p4.table"],
+    ),
+    (
+        &["barfigol", "translate", "strict", "-", "p"],
+        &["p4.table"],
+    ),
+    (&["barfigol", "show", "p"], &["p4.table"]),
+    (&["barfigol", "assemble", "-", "p"], &["p4.table"]),
+    (&["barfigol", "help", "re"], &["readings"]),
+    (
+        &["barfigol", "help", "--completions", ""],
+        &["bash", "fish", "zsh"],
+    ),
+];
+
 #[test]
 fn completions_for_bash() {
-    let readings = ["kleene", "relational", "strict"];
-    let files = ["a b", "p4.table"];
-    let cases: [(&[&str], &[&str]); 19] = [
-        (&["barfigol", "ch"], &["check"]),
-        (&["barfigol", "--v"], &["--version"]),
-        (&["barfigol", "list", ""], &readings),
-        (&["barfigol", "list", "re"], &["relational"]),
-        (&["barfigol", "list", "strict", ""], &files),
-        (&["barfigol", "list", "strict", "p4.table", ""], &[]),
-        (&["barfigol", "check", "p4.table", "a"], &["a b"]),
-        (&["barfigol", "check", "--j"], &["--json"]),
-        (&["barfigol", "list", "--j"], &[]),
-        (&["barfigol", "evaluate", "--budget", ""], &[]),
-        (&["barfigol", "evaluate", "--budget", "6", ""], &readings),
-        (
-            &["barfigol", "evaluate", "-q", "strict", "p"],
-            &["p4.table"],
-        ),
-        (
-            &["barfigol", "evaluate", "strict", "p4.table", "-7", ""],
-            &[],
-        ),
-        (
-            &["barfigol", "evaluate", "strict", "-", "--assignments", "p"],
-            &["p4.table"],
-        ),
-        (
-            &["barfigol", "translate", "strict", "-", "p"],
-            &["p4.table"],
-        ),
-        (&["barfigol", "show", "p"], &["p4.table"]),
-        (&["barfigol", "assemble", "-", "p"], &["p4.table"]),
-        (&["barfigol", "help", "re"], &["readings"]),
-        (
-            &["barfigol", "help", "--completions", ""],
-            &["bash", "fish", "zsh"],
-        ),
-    ];
-    for (line, expected) in cases {
+    for (line, expected) in COMPLETED {
         assert_eq!(completed(line), expected, "{line:?}");
     }
 }

@@ -111,30 +111,32 @@ fn an_evaluation() {
     );
 }
 
+/// Words behind evaluate, with number, record and explanation of the refusal.
+const REFUSED: [(&[&str], i64, i64, &str); 3] = [
+    (
+        &["7", "-", "0"],
+        7,
+        0,
+        "refused 7: 7 is no reading: 1 strict, 2 kleene, 3 relational",
+    ),
+    (
+        &["1", "-", "-5"],
+        10,
+        1,
+        "refused 10 at record 1 (VR 1, variable 0): value -5 is outside the domain 0..1",
+    ),
+    (
+        &["1", "-", "0", "--budget=5"],
+        11,
+        0,
+        "refused 11: 6 steps needed, the budget is 5",
+    ),
+];
+
 #[test]
 fn refused_evaluations() {
     let table = trials::p4().bytes();
-    let cases: [(&[&str], i64, i64, &str); 3] = [
-        (
-            &["7", "-", "0"],
-            7,
-            0,
-            "refused 7: 7 is no reading: 1 strict, 2 kleene, 3 relational",
-        ),
-        (
-            &["1", "-", "-5"],
-            10,
-            1,
-            "refused 10 at record 1 (VR 1, variable 0): value -5 is outside the domain 0..1",
-        ),
-        (
-            &["1", "-", "0", "--budget=5"],
-            11,
-            0,
-            "refused 11: 6 steps needed, the budget is 5",
-        ),
-    ];
-    for (words, number, record, explanation) in cases {
+    for (words, number, record, explanation) in REFUSED {
         let ran = run_with(&[&["evaluate", "--json"], words].concat(), &table);
         assert_eq!((ran.status, ran.err.as_str()), (Some(1), ""));
         let object = parse(ran.out.trim_end());
@@ -179,6 +181,21 @@ fn many_evaluations() {
     assert_eq!(Json::List(of("record")), numbers(&[0, 0, 1]));
     assert_eq!(of("verdicts")[1], texts(&["false"]));
     assert_eq!(objects[0].keys()[..2], ["table", "line"]);
+}
+
+/// What is refused whatever the assignment is has one object, without a line.
+#[test]
+fn many_evaluations_of_a_faulty_table() {
+    let faulty = &example("faulty.table");
+    let words = ["evaluate", "1", faulty, "--assignments", "-", "--json"];
+    let ran = run_with(&words, b"0\n1\n");
+    assert_eq!((ran.status, ran.err.as_str()), (Some(1), ""));
+    let objects = parse_lines(&ran.out);
+    assert_eq!(objects.len(), 1);
+    assert_eq!(objects[0].get("number"), &Json::Number(4));
+    assert_eq!(objects[0].get("record"), &Json::Number(4));
+    assert_eq!(objects[0].get("assignment"), &numbers(&[]));
+    assert!(!objects[0].keys().contains(&"line"));
 }
 
 /// Every key that stands in an object is described in the help.

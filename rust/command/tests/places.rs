@@ -284,6 +284,21 @@ fn permissions_count() {
     mode(&closed, 0o755);
 }
 
+/// What a killed run left behind is in nobody's way, and is not touched.
+#[test]
+fn a_left_part_is_passed_over() {
+    let folder = with_log("left");
+    // The shell becomes the command, so its number is the command's.
+    let line = "echo left > .barfigol.$$.0.part; echo $$ > number; \
+                exec barfigol translate relational p4.table log";
+    assert_done(&shell(&folder, line), "");
+    assert_eq!(read(&folder, "log"), translation());
+    let number = String::from_utf8(read(&folder, "number")).expect("a number");
+    let left = format!(".barfigol.{}.0.part", number.trim_end());
+    assert_eq!(read(&folder, &left), b"left\n");
+    assert_eq!(names(&folder), [left.as_str(), "log", "number", "p4.table"]);
+}
+
 /// The other name of a file with two names keeps the old bytes.
 #[test]
 fn a_hard_link_parts_from_its_twin() {

@@ -7,150 +7,156 @@ use barfigol_tables::{Node, Table};
 use common::{assert_done, assert_misused, assert_no, assert_refused, example, file, folder};
 use common::{run, run_with, text, INPUT};
 
+/// A table that is not looked at, since the words are wrong.
+const TABLE: &str = "unread.table";
+
+/// Words that ask for nothing, and what is said of them.
+const WRONG_WORDS: [(&[&str], &str); 19] = [
+    (&[], "nothing is asked for (see barfigol --help)"),
+    (
+        &["solve", TABLE],
+        "'solve' is no command (see barfigol --help)",
+    ),
+    (&["-"], "'-' is no command"),
+    (&["-1"], "'-1' is no command"),
+    (&["version"], "'version' is no command (see"),
+    (
+        &["check"],
+        "check takes TABLE.., and TABLE is missing (see barfigol help check)",
+    ),
+    (&["--version", TABLE], "--version stands alone"),
+    (
+        &["list"],
+        "list takes READING TABLE, and READING is missing",
+    ),
+    (
+        &["list", "strict"],
+        "list takes READING TABLE, and TABLE is missing",
+    ),
+    (
+        &["list", "strict", TABLE, "x"],
+        "list takes READING TABLE, and 'x' is one too many",
+    ),
+    (
+        &["translate", "strict", TABLE],
+        "translate takes READING TABLE OUT, and OUT is missing",
+    ),
+    (
+        &["evaluate", "strict"],
+        "evaluate takes READING TABLE [VALUE..], and TABLE is missing",
+    ),
+    (
+        &["evaluate", "strict", TABLE, "y"],
+        "'y' is no signed number of 32 bits",
+    ),
+    (&["evaluate", "strict", TABLE, ""], "'' is no signed number"),
+    (
+        &["evaluate", "strict", TABLE, "2147483648"],
+        "'2147483648' is no signed",
+    ),
+    (
+        &["evaluate", "strict", TABLE, "-2147483649"],
+        "no signed number of 32 bits",
+    ),
+    (
+        &["evaluate", "strict", TABLE, "0.5"],
+        "no signed number of 32 bits",
+    ),
+    (
+        &["check", "-", TABLE, "-"],
+        "- is given twice, and standard input can be read once",
+    ),
+    (&["readings", TABLE, TABLE], "readings takes TABLE, and '"),
+];
+
 #[test]
 fn wrong_words() {
-    let p4 = &example("p4.table");
-    let cases: [(&[&str], &str); 19] = [
-        (&[], "nothing is asked for (see barfigol --help)"),
-        (
-            &["solve", p4],
-            "'solve' is no command (see barfigol --help)",
-        ),
-        (&["-"], "'-' is no command"),
-        (&["-1"], "'-1' is no command"),
-        (&["version"], "'version' is no command (see"),
-        (
-            &["check"],
-            "check takes TABLE.., and TABLE is missing (see barfigol help check)",
-        ),
-        (&["--version", p4], "--version stands alone"),
-        (
-            &["list"],
-            "list takes READING TABLE, and READING is missing",
-        ),
-        (
-            &["list", "strict"],
-            "list takes READING TABLE, and TABLE is missing",
-        ),
-        (
-            &["list", "strict", p4, "x"],
-            "list takes READING TABLE, and 'x' is one too many",
-        ),
-        (
-            &["translate", "strict", p4],
-            "translate takes READING TABLE OUT, and OUT is missing",
-        ),
-        (
-            &["evaluate", "strict"],
-            "evaluate takes READING TABLE [VALUE..], and TABLE is missing",
-        ),
-        (
-            &["evaluate", "strict", p4, "y"],
-            "'y' is no signed number of 32 bits",
-        ),
-        (&["evaluate", "strict", p4, ""], "'' is no signed number"),
-        (
-            &["evaluate", "strict", p4, "2147483648"],
-            "'2147483648' is no signed",
-        ),
-        (
-            &["evaluate", "strict", p4, "-2147483649"],
-            "no signed number of 32 bits",
-        ),
-        (
-            &["evaluate", "strict", p4, "0.5"],
-            "no signed number of 32 bits",
-        ),
-        (
-            &["check", "-", p4, "-"],
-            "- is given twice, and standard input can be read once",
-        ),
-        (&["readings", p4, p4], "readings takes TABLE, and '"),
-    ];
-    for (words, part) in cases {
+    for (words, part) in WRONG_WORDS {
         assert_misused(&run(words), part);
     }
 }
+
+/// Words that are no option there, and what is said of them.
+const WRONG_OPTIONS: [(&[&str], &str); 12] = [
+    (
+        &["evaluate", "strict", TABLE, "--bugdet", "6"],
+        "'--bugdet' is no option of evaluate: did you mean '--budget'?",
+    ),
+    (
+        &["evaluate", "--bugdet=6", "strict", TABLE],
+        "'--bugdet' is no option of evaluate: did you mean '--budget'?",
+    ),
+    (
+        &["evaluate", "strict", TABLE, "--assign", "f"],
+        "did you mean '--assignments'?",
+    ),
+    (
+        &["check", "--JSON", TABLE],
+        "'--JSON' is no option of check: did you mean '--json'?",
+    ),
+    (&["check", "-j", TABLE], "'-j' is no option of check (see"),
+    (
+        &["list", "--json", "strict", TABLE],
+        "'--json' is no option of list (see",
+    ),
+    (&["check", "--json=yes", TABLE], "--json takes no value"),
+    (
+        &["check", "--version", TABLE],
+        "'--version' is no option of check (see",
+    ),
+    (
+        &["--bugdet", "check"],
+        "'--bugdet' is no option: did you mean '--budget'?",
+    ),
+    (
+        &["--budget", "6", "evaluate"],
+        "--budget stands behind a command",
+    ),
+    (&["-q", "check", TABLE], "--quiet stands behind a command"),
+    (
+        &["check", "--json", "-q", TABLE],
+        "--json and --quiet exclude each other",
+    ),
+];
 
 #[test]
 fn wrong_options_are_called_options() {
-    let p4 = &example("p4.table");
-    let cases: [(&[&str], &str); 12] = [
-        (
-            &["evaluate", "strict", p4, "--bugdet", "6"],
-            "'--bugdet' is no option of evaluate: did you mean '--budget'?",
-        ),
-        (
-            &["evaluate", "--bugdet=6", "strict", p4],
-            "'--bugdet' is no option of evaluate: did you mean '--budget'?",
-        ),
-        (
-            &["evaluate", "strict", p4, "--assign", "f"],
-            "did you mean '--assignments'?",
-        ),
-        (
-            &["check", "--JSON", p4],
-            "'--JSON' is no option of check: did you mean '--json'?",
-        ),
-        (&["check", "-j", p4], "'-j' is no option of check (see"),
-        (
-            &["list", "--json", "strict", p4],
-            "'--json' is no option of list (see",
-        ),
-        (&["check", "--json=yes", p4], "--json takes no value"),
-        (
-            &["check", "--version", p4],
-            "'--version' is no option of check (see",
-        ),
-        (
-            &["--bugdet", "check"],
-            "'--bugdet' is no option: did you mean '--budget'?",
-        ),
-        (
-            &["--budget", "6", "evaluate"],
-            "--budget stands behind a command",
-        ),
-        (&["-q", "check", p4], "--quiet stands behind a command"),
-        (
-            &["check", "--json", "-q", p4],
-            "--json and --quiet exclude each other",
-        ),
-    ];
-    for (words, part) in cases {
+    for (words, part) in WRONG_OPTIONS {
         assert_misused(&run(words), part);
     }
 }
 
+/// Words with wrong letters, and what is asked.
+const MISTYPED: [(&[&str], &str); 9] = [
+    (
+        &["evalute"],
+        "'evalute' is no command: did you mean 'evaluate'?",
+    ),
+    (&["eval"], "did you mean 'evaluate'?"),
+    (
+        &["Check", TABLE],
+        "'Check' is no command: did you mean 'check'?",
+    ),
+    (&["tarnslate"], "did you mean 'translate'?"),
+    (
+        &["help", "evalute"],
+        "'evalute' is no command: did you mean 'evaluate'?",
+    ),
+    (
+        &["list", "strikt", TABLE],
+        "'strikt' is no reading: did you mean 'strict'?",
+    ),
+    (&["list", "klene", TABLE], "did you mean 'kleene'?"),
+    (&["list", "rel", TABLE], "did you mean 'relational'?"),
+    (
+        &["help", "--completions", "bsh"],
+        "no completions for 'bsh': did you mean 'bash'?",
+    ),
+];
+
 #[test]
 fn mistyped_words_are_suggested() {
-    let p4 = &example("p4.table");
-    let cases: [(&[&str], &str); 9] = [
-        (
-            &["evalute"],
-            "'evalute' is no command: did you mean 'evaluate'?",
-        ),
-        (&["eval"], "did you mean 'evaluate'?"),
-        (
-            &["Check", p4],
-            "'Check' is no command: did you mean 'check'?",
-        ),
-        (&["tarnslate"], "did you mean 'translate'?"),
-        (
-            &["help", "evalute"],
-            "'evalute' is no command: did you mean 'evaluate'?",
-        ),
-        (
-            &["list", "strikt", p4],
-            "'strikt' is no reading: did you mean 'strict'?",
-        ),
-        (&["list", "klene", p4], "did you mean 'kleene'?"),
-        (&["list", "rel", p4], "did you mean 'relational'?"),
-        (
-            &["help", "--completions", "bsh"],
-            "no completions for 'bsh': did you mean 'bash'?",
-        ),
-    ];
-    for (words, part) in cases {
+    for (words, part) in MISTYPED {
         assert_misused(&run(words), part);
     }
 }

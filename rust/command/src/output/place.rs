@@ -132,8 +132,7 @@ fn open_file(path: &Path, process: &Path) -> Result<Place, String> {
 
 /// Whether a folder is that of this process, or of a thread of it.
 fn is_own(process: &Path) -> bool {
-    let own = format!("/proc/{}", std::process::id());
-    process.starts_with(own)
+    fs::canonicalize("/proc/self").map_or(false, |own| process.starts_with(own))
 }
 
 /// Whether an open file is for reading only. The system writes its flags in

@@ -2,7 +2,6 @@
 
 mod check;
 mod evaluate;
-mod lines;
 mod readings;
 mod text;
 mod translate;
