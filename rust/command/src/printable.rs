@@ -33,9 +33,12 @@ pub fn printable(word: &OsStr) -> String {
     }
 }
 
-/// The name of a file, made fit for a terminal.
+/// The name of a file, made fit for a terminal. No name at all is seen, too.
 pub fn path(path: &Path) -> String {
-    printable(path.as_os_str())
+    match printable(path.as_os_str()) {
+        none if none.is_empty() => String::from("''"),
+        name => name,
+    }
 }
 
 /// A word in quotes, made fit for a terminal.

@@ -7,6 +7,9 @@ use common::{assert_answer, assert_done, assert_misused, assert_no, assert_refus
 use common::{example, file, folder, run, run_with, text, COMMAND, INPUT};
 use std::io::{BufRead, BufReader, Write};
 use std::process::{Command, Stdio};
+use std::sync::mpsc;
+use std::thread;
+use std::time::Duration;
 
 /// Each line has what evaluate says at its values.
 #[test]
@@ -203,11 +206,13 @@ fn answers_come_line_by_line() {
         .spawn()
         .expect("the command starts");
     let mut input = child.stdin.take().expect("a pipe");
-    let mut output = BufReader::new(child.stdout.take().expect("a pipe"));
+    let output = BufReader::new(child.stdout.take().expect("a pipe"));
+    let (sender, answers) = mpsc::channel();
+    thread::spawn(move || output.lines().try_for_each(|line| sender.send(line)));
     for (value, verdict) in [("0", "true"), ("1", "false"), ("0", "true")] {
         writeln!(input, "{value}").expect("a reader");
-        let mut line = String::new();
-        output.read_line(&mut line).expect("an answer");
+        let line = answers.recv_timeout(Duration::from_secs(60));
+        let line = line.expect("an answer in time").expect("a line");
         assert!(line.starts_with(&format!("{verdict}; steps 6; ")), "{line}");
     }
     drop(input);

@@ -4,13 +4,12 @@
 mod common;
 
 use barfigol_tables::trials;
+use common::COMMAND;
 use common::{assert_done, assert_misused, example, file, folder, names, run, shell, text};
-use common::{Ran, COMMAND};
-use std::fs::{self, File};
-use std::io::Read;
+use std::fs;
 use std::os::unix::fs::symlink;
 use std::path::Path;
-use std::process::{Command, Stdio};
+use std::process::Command;
 
 /// The bytes of P4's relational translation, by way of a plain file.
 fn translation() -> Vec<u8> {
@@ -150,28 +149,13 @@ fn devices_are_written_to_and_stay() {
 #[test]
 fn a_fifo_is_written_to_and_stays() {
     let folder = with_log("fifo");
-    let fifo = folder.join("fifo");
-    let made = Command::new("mkfifo").arg(&fifo).status();
-    assert!(made.expect("mkfifo starts").success());
-    let child = Command::new(COMMAND)
-        .args([
-            "translate",
-            "relational",
-            &example("p4.table"),
-            &text(&fifo),
-        ])
-        .stdout(Stdio::piped())
-        .stderr(Stdio::piped())
-        .spawn()
-        .expect("the command starts");
-    let mut bytes = Vec::new();
-    let mut reader = File::open(&fifo).expect("the fifo");
-    reader.read_to_end(&mut bytes).expect("bytes");
-    assert_eq!(bytes, translation());
-    let ran: Ran = child.wait_with_output().expect("the command ends").into();
-    assert_done(&ran, "");
-    assert_eq!(names(&folder), ["fifo", "log", "p4.table"]);
-    assert!(!fs::metadata(&fifo).expect("the fifo").is_file());
+    let line = "mkfifo fifo && { timeout 60 cat fifo > got & } && \
+                timeout 60 barfigol translate relational p4.table fifo && wait";
+    assert_done(&shell(&folder, line), "");
+    assert_eq!(read(&folder, "got"), translation());
+    assert_eq!(names(&folder), ["fifo", "got", "log", "p4.table"]);
+    let found = fs::metadata(folder.join("fifo")).expect("the fifo");
+    assert!(!found.is_file());
 }
 
 #[test]

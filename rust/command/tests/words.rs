@@ -272,6 +272,7 @@ fn files_that_are_not_there() {
     }
     assert!(!out.exists());
     assert_misused(&run(&["check", &text(&folder)]), "Is a directory");
+    assert_misused(&run(&["check", ""]), "barfigol: '': No such file");
 }
 
 /// Nothing that a terminal would obey goes to it from a name or a word.
