@@ -7,7 +7,7 @@ pub const READING: Operand = Operand {
     name: "READING",
     count: Count::One,
     fills: Fills::Reading,
-    text: "strict, kleene or relational, in any case, or a number: 1, 2 and 3 are the three, any other one is refused with 7.",
+    text: "A reading: strict, kleene or relational, in any case, or its number 1, 2 or 3. Any other number is refused with 7.",
 };
 
 /// A table.
@@ -54,7 +54,7 @@ pub const COMMAND: Operand = Operand {
     name: "COMMAND",
     count: Count::AtMostOne,
     fills: Fills::Command,
-    text: "The command to tell about.",
+    text: "The command to tell about, or none for all of them.",
 };
 
 /// Every operand, each once.

@@ -15,7 +15,7 @@ pub const ASSIGNMENTS: Switch = Switch {
     long: "assignments",
     short: None,
     value: Some(("FILE", Fills::File)),
-    text: "Evaluates at each line of FILE, or of standard input for -, in place of VALUE.. .",
+    text: "Evaluates at each line of FILE, or of standard input for -, in place of values.",
 };
 
 /// JSON in place of text.
@@ -55,7 +55,7 @@ pub const HELP: Switch = Switch {
     long: "help",
     short: Some('h'),
     value: None,
-    text: "Prints help, behind a command's word help about it.",
+    text: "Prints help; behind a command, help about it.",
 };
 
 /// Name and version.
