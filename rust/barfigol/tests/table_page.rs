@@ -129,10 +129,3 @@ fn the_records_of_the_placement_model() {
     let file = fs::read(root().join("examples/placement.table")).expect("a file");
     assert_eq!(assemble(&blocks[0]), Ok(file));
 }
-
-#[test]
-fn lines_are_not_too_long() {
-    for (number, line) in text("docs/TABLE.md").lines().enumerate() {
-        assert!(line.chars().count() <= 160, "line {}", number + 1);
-    }
-}

@@ -81,17 +81,23 @@ fn read_line(line: &[u8]) -> Result<Line, Problem> {
     let mut words = Words {
         rest: &line[..comment.unwrap_or(line.len())],
     };
-    let first = match words.next_word() {
-        Some(word) => word,
-        None => return Ok(Line::Nothing),
-    };
-    if first == REST_WORD.as_bytes() {
-        let digits = words.next_word().ok_or(Problem::NoBytes)?;
-        let bytes = from_hex(digits).ok_or_else(|| Problem::Bytes(quoted(digits)))?;
-        words.end("bytes")?;
-        return Ok(Line::Bytes(bytes));
+    match words.next_word() {
+        None => Ok(Line::Nothing),
+        Some(word) if word == REST_WORD.as_bytes() => read_rest(words),
+        Some(word) => read_record(read_mark(word)?, words),
     }
-    let mark = read_mark(first)?;
+}
+
+/// Bytes that are no record, behind their first word.
+fn read_rest(mut words: Words) -> Result<Line, Problem> {
+    let digits = words.next_word().ok_or(Problem::NoBytes)?;
+    let bytes = from_hex(digits).ok_or_else(|| Problem::Bytes(quoted(digits)))?;
+    words.end(REST_WORD)?;
+    Ok(Line::Bytes(bytes))
+}
+
+/// A record, behind its mark.
+fn read_record(mark: [u8; 2], mut words: Words) -> Result<Line, Problem> {
     let kind = read_number(&mut words, 1, 0, 255)? as u8;
     let aux = read_number(&mut words, 2, 0, 255)? as u8;
     let is_uncounted = mark == *b"HD" && words.clone().next_word() == Some(b"?".as_slice());

@@ -51,57 +51,58 @@ fn declarations() {
     assert_eq!(notes(&table.bytes()), expected);
 }
 
-/// Every kind has its form.
+/// A node of every kind, with its form.
+const NODES: [(Node, &str); 28] = [
+    (Node::constant(-7), "-7"),
+    (Node::truth(0), "false"),
+    (Node::variable(0), "variable 0"),
+    (Node::bool_variable(1), "variable 1"),
+    (Node::slot(0), "slot 0"),
+    (Node::add(0, 2), "node 0 + node 2"),
+    (Node::subtract(0, 2), "node 0 - node 2"),
+    (Node::multiply(0, 2), "node 0 * node 2"),
+    (Node::div(5, 2), "node 5 div node 2"),
+    (Node::modulo(5, 2), "node 5 mod node 2"),
+    (Node::negate(5), "minus node 5"),
+    (Node::min(5, 2), "min(node 5, node 2)"),
+    (Node::max(5, 2), "max(node 5, node 2)"),
+    (Node::bool_to_int(1), "boolToInt(node 1)"),
+    (Node::lookup(0, 2), "array 0 at node 2"),
+    (Node::bool_lookup(1, 2), "array 1 at node 2"),
+    (Node::sum(0, 4), "sum over slot 0 of node 4"),
+    (Node::and(1, 3), "node 1 and node 3"),
+    (Node::or(1, 3), "node 1 or node 3"),
+    (Node::implies(1, 3), "node 1 implies node 3"),
+    (Node::iff(1, 3), "node 1 iff node 3"),
+    (Node::not(1), "not node 1"),
+    (Node::equal(0, 4), "node 0 = node 4"),
+    (Node::unequal(0, 4), "node 0 != node 4"),
+    (Node::at_most(0, 4), "node 0 <= node 4"),
+    (Node::below(0, 4), "node 0 < node 4"),
+    (Node::exists(0, 22), "exists over slot 0 of node 22"),
+    (Node::forall(0, 22), "forall over slot 0 of node 22"),
+];
+
 #[test]
 fn nodes() {
     let bools = [Element::Constant(1), Element::Constant(0)];
-    let nodes = [
-        (Node::constant(-7), "-7"),
-        (Node::truth(0), "false"),
-        (Node::variable(0), "variable 0"),
-        (Node::bool_variable(1), "variable 1"),
-        (Node::slot(0), "slot 0"),
-        (Node::add(0, 2), "node 0 + node 2"),
-        (Node::subtract(0, 2), "node 0 - node 2"),
-        (Node::multiply(0, 2), "node 0 * node 2"),
-        (Node::div(5, 2), "node 5 div node 2"),
-        (Node::modulo(5, 2), "node 5 mod node 2"),
-        (Node::negate(5), "minus node 5"),
-        (Node::min(5, 2), "min(node 5, node 2)"),
-        (Node::max(5, 2), "max(node 5, node 2)"),
-        (Node::bool_to_int(1), "boolToInt(node 1)"),
-        (Node::lookup(0, 2), "array 0 at node 2"),
-        (Node::bool_lookup(1, 2), "array 1 at node 2"),
-        (Node::sum(0, 4), "sum over slot 0 of node 4"),
-        (Node::and(1, 3), "node 1 and node 3"),
-        (Node::or(1, 3), "node 1 or node 3"),
-        (Node::implies(1, 3), "node 1 implies node 3"),
-        (Node::iff(1, 3), "node 1 iff node 3"),
-        (Node::not(1), "not node 1"),
-        (Node::equal(0, 4), "node 0 = node 4"),
-        (Node::unequal(0, 4), "node 0 != node 4"),
-        (Node::at_most(0, 4), "node 0 <= node 4"),
-        (Node::below(0, 4), "node 0 < node 4"),
-        (Node::exists(0, 22), "exists over slot 0 of node 22"),
-        (Node::forall(0, 22), "forall over slot 0 of node 22"),
-    ];
-    assert_eq!(nodes.len(), barfigol_format::kinds::KINDS.len());
+    assert_eq!(NODES.len(), barfigol_format::kinds::KINDS.len());
     let mut table = Table::new()
         .variable(0, 1)
         .bool_variable()
         .slot(0, 1)
         .constants(0, &[4])
         .array(Type::Bool, 0, &bools);
-    for (node, _) in nodes {
+    for (node, _) in NODES {
         table.push(node);
     }
     let table = table.constraint(27);
     let notes = notes(&table.bytes());
     let start = table.first_node_record();
-    for (number, (_, form)) in nodes.iter().enumerate() {
+    for (number, (_, form)) in NODES.iter().enumerate() {
         assert_eq!(notes[start + number], format!("node {number}: {form}"));
     }
-    assert_eq!(notes[start + nodes.len()], "constraint 0: node 27");
+    assert_eq!(notes[start + NODES.len()], "constraint 0: node 27");
 }
 
 #[test]

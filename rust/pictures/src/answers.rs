@@ -1,12 +1,11 @@
 //! What a table is worth, asked of the proved library.
 
 use barfigol::{evaluate, translate, Reading, Verdict};
+use barfigol_format::limits::VALUE_LIMIT;
 use barfigol_format::{Node, Table, Type};
 
 /// Enough for every table that is drawn.
 const BUDGET: u32 = 1_000_000;
-/// The values that a node can have lie within this.
-const LIMIT: i64 = 2_000_000_000;
 
 /// What a node is worth for an assignment.
 #[derive(Clone, Copy, Debug, PartialEq, Eq)]
@@ -74,7 +73,7 @@ fn number(reading: Reading, table: &Table, values: &[i32], node: i32) -> Worth {
     if verdict_on(reading, table, values, Node::equal(node, node)) != Verdict::True {
         return Worth::Undefined;
     }
-    let (mut low, mut high) = (-LIMIT, LIMIT);
+    let (mut low, mut high) = (-VALUE_LIMIT, VALUE_LIMIT);
     while low < high {
         let middle = (low + high).div_euclid(2);
         let mut table = table.clone();

@@ -87,50 +87,37 @@ fn record(drawing: &mut Drawing, y: i32) {
     drawing.text((FIRST_BYTE, y + 150), Anchor::Start, WORDS, &text);
 }
 
-/// The sections, each with its mark, what it declares and how many there are.
-fn sections(drawing: &mut Drawing, y: i32) {
+/// A section: its mark, what it declares, how many of them, what its fields
+/// hold, and its paint.
+struct Section(&'static str, &'static str, String, String, Paint);
+
+fn all_sections() -> [Section; 6] {
+    let any = || String::from("any number");
     let up_to = |most: usize| format!("0 to {}", grouped(most));
+    let one = String::from("exactly 1");
     let elements = format!("1 to {} EL each", grouped(MOST_ELEMENTS as usize));
-    let sections = [
-        (
-            "HD",
-            "head",
-            String::from("exactly 1"),
-            "x: how many records",
-            PLAIN,
-        ),
-        (
+    let [variables, slots, arrays] = [MOST_VARIABLES, MOST_SLOTS, MOST_ARRAYS].map(up_to);
+    [
+        Section("HD", "head", one, "x: how many records".into(), PLAIN),
+        Section(
             "VR",
             "variables",
-            up_to(MOST_VARIABLES),
-            "x..y: the domain",
+            variables,
+            "x..y: the domain".into(),
             TOOL,
         ),
-        ("SL", "slots", up_to(MOST_SLOTS), "x..y: the range", TOOL),
-        (
-            "AR EL ..",
-            "arrays",
-            up_to(MOST_ARRAYS),
-            elements.as_str(),
-            TOOL,
-        ),
-        (
-            "ND",
-            "nodes",
-            String::from("any number"),
-            "x, y: by kind",
-            NUMBERS,
-        ),
-        (
-            "CN",
-            "constraints",
-            String::from("any number"),
-            "x: its node",
-            KIND,
-        ),
-    ];
+        Section("SL", "slots", slots, "x..y: the range".into(), TOOL),
+        Section("AR EL ..", "arrays", arrays, elements, TOOL),
+        Section("ND", "nodes", any(), "x, y: by kind".into(), NUMBERS),
+        Section("CN", "constraints", any(), "x: its node".into(), KIND),
+    ]
+}
+
+/// The sections, from the first to the last.
+fn sections(drawing: &mut Drawing, y: i32) {
     let mut last: Option<Area> = None;
-    for (place, (mark, what, count, fields, paint)) in sections.into_iter().enumerate() {
+    for (place, section) in all_sections().iter().enumerate() {
+        let Section(mark, what, count, fields, paint) = section;
         let area = Area {
             x: 19 + 164 * place as i32,
             y,
@@ -139,12 +126,12 @@ fn sections(drawing: &mut Drawing, y: i32) {
         };
         let mark_font = Font { size: 16, ..STRONG };
         let lines = [
-            (mark_font, mark),
-            (WORDS, what),
+            (mark_font, *mark),
+            (WORDS, *what),
             (REMARK, count.as_str()),
-            (REMARK, fields),
+            (REMARK, fields.as_str()),
         ];
-        drawing.note(area, paint, &lines);
+        drawing.note(area, *paint, &lines);
         if let Some(last) = last {
             drawing.arrow(last.right(), area.left());
         }
