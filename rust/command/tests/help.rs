@@ -314,6 +314,9 @@ fn the_examples_are_understood() {
 fn completions_for_fish() {
     let folder = common::folder("fish");
     common::file(&folder, "p4.table", &[]);
+    if common::shell(&folder, "command -v fish > /dev/null").status != Some(0) {
+        return;
+    }
     let readings = "kleene\nrelational\nstrict\n";
     for (line, expected) in [
         ("barfigol list ", readings),
@@ -321,10 +324,10 @@ fn completions_for_fish() {
         ("barfigol evaluate --budget 6 ", readings),
         ("barfigol evaluate strict p4.table -7 ", ""),
         ("barfigol check p4.table p", "p4.table\n"),
+        ("barfigol assemble - p", "p4.table\n"),
     ] {
         let script = format!(
-            "command -v fish > /dev/null || {{ printf '%s' '{expected}'; exit 0; }}; \
-             barfigol help --completions fish > s.fish && \
+            "barfigol help --completions fish > s.fish && \
              HOME=$PWD fish -N -c 'source s.fish; complete -C \"{line}\"'"
         );
         assert_done(&common::shell(&folder, &script), expected);
