@@ -2,7 +2,7 @@
 # file after tools.sh and progress.sh.
 
 archive=$root/target/staticlib/libbarfigol.a
-program=$root/target/rust/release/barfigol_command
+program=$root/target/rust/release/barfigol
 
 # Whether a file is missing or older than one of its sources.
 stale() { # FILE SOURCE..
