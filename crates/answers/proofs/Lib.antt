@@ -7,9 +7,7 @@ pub mod Elements
 pub mod Faults
 pub mod Fields
 pub mod KindRows
-pub mod KindTrials
 pub mod KindsFit
-pub mod LimitTrials
 pub mod Listed
 pub mod ListingTrials
 pub mod NewArrays

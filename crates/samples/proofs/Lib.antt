@@ -1,0 +1,2 @@
+pub mod EveryKind
+pub mod NumberEight
