@@ -1,36 +1,11 @@
--- The code's table of kinds, entry by entry, from the table of kinds of document 01, and the same in columns of numbers.
+-- The entries of the code's table of kinds, as numbers, from the table of kinds of document 01.
 -- Assumes nothing.
-use Prim.Native.Nat.{ℕ, _+_}
-use mathlib.Core.Bool.{cond, _&&_}
+use Prim.Native.Nat.{ℕ, _+_, _*_}
+use mathlib.Core.Bool.{cond}
 use mathlib.Core.Option.{Option, none, some}
-use lib.Dec.{eqb, leb, ltb}
+use lib.Dec.{ltb}
 use Rattle.language.specs.Syntax as Syntax
 use Rattle.table.specs.Kinds as Kinds
-use Rattle.kinds.specs.declared.Sort.{Sort}
-use Rattle.kinds.specs.declared.Sort.the-variants.{Boolean, Integer}
-use Rattle.kinds.specs.declared.Operand.{Operand}
-use Rattle.kinds.specs.declared.Operand.the-variants.{Missing, Unused, AnyNumber, TruthValue, SlotNumber, VariableNumber, ArrayNumber, NodeNumber}
-use Rattle.kinds.specs.declared.Kind.{Kind}
-
-unfoldable pub sortOf : Syntax.Sort → Sort
-sortOf Syntax.boolean = Boolean
-sortOf Syntax.integer = Integer
-
-unfoldable pub operandOf : Kinds.Field → Operand
-operandOf Kinds.unused = Unused
-operandOf Kinds.anyNumber = AnyNumber
-operandOf Kinds.truthValue = TruthValue
-operandOf (Kinds.variableNumber t) = VariableNumber (sortOf t)
-operandOf Kinds.slotNumber = SlotNumber
-operandOf (Kinds.arrayNumber t) = ArrayNumber (sortOf t)
-operandOf (Kinds.nodeNumber t) = NodeNumber (sortOf t)
-
--- an entry of the table; a number without a kind yields what `nodeSort` says of it
-unfoldable pub entryOf : Option Kinds.Kind → Kind
-entryOf none = record { x = Missing; y = Missing; yields = Boolean }
-entryOf (some k) = record { x = operandOf (k .fieldX); y = operandOf (k .fieldY); yields = sortOf (k .yields) }
-
--- ---- in columns
 
 -- Boolean 0, integer 1
 unfoldable pub tag : Syntax.Sort → ℕ
@@ -82,25 +57,9 @@ unfoldable pub bindsOf : Option Kinds.Kind → ℕ
 bindsOf none = 0
 bindsOf (some k) = bindsIn (k .fieldX) (k .fieldY)
 
--- ---- the same numbers from an entry of the code's table
-
-abbrev pub sortTag : Sort → ℕ
-sortTag Boolean = 0
-sortTag Integer = 1
-
-abbrev pub operandCode : Operand → ℕ
-operandCode Missing = 0
-operandCode Unused = 1
-operandCode AnyNumber = 2
-operandCode TruthValue = 3
-operandCode SlotNumber = 4
-operandCode (VariableNumber t) = 5 + sortTag t
-operandCode (ArrayNumber t) = 7 + sortTag t
-operandCode (NodeNumber t) = 9 + sortTag t
-
--- by the operands' codes: a slot, and a node
-abbrev pub binderFlag : ℕ → ℕ → ℕ
-binderFlag x y = cond (eqb x 4 && leb 9 y) 1 0
+-- an entry of the code's table: both operands, what the kind yields, and whether it binds a slot
+unfoldable pub entryOf : Option Kinds.Kind → ℕ
+entryOf k = codeX k + (16 * codeY k + (256 * tagOf k + 512 * bindsOf k))
 
 -- the row of a kind number: row 0 where there is none
 unfoldable pub rowOf : ℕ → ℕ

@@ -4,7 +4,7 @@ use mathlib.Core.Path.{_≡_, refl, sym, ap, _∙_}
 use mathlib.Core.Bool.{Bool, true, false}
 use mathlib.Core.List.{List, [], _∷_, map}
 use mathlib.Core.Option.{Option, none, some}
-use Prim.Native.Nat.{ℕ, zero, suc, _+_, _*_, _-_, _≤_, _<_}
+use Prim.Native.Nat.{ℕ, zero, suc, _+_, _*_, _-_, _/_, _%_, _≤_, _<_}
 use mathlib.Core.Logic.{_⊎_, ⊎-elim}
 use native.Mathlib.Nat.{add-zero, not-suc-le-zero, le-of-suc-le-suc, eq-or-lt-of-le}
 use native.Mathlib.Numerals.{add-one}
@@ -16,13 +16,13 @@ use lib.Seq.{getD-drop, drop-drop, getD-set-same, getD-set-other}
 use Rattle.table.specs.Records.{AR, recordSize, recordCount, wordAt, marked, yAt, signed}
 use Rattle.language.specs.Syntax.{boolean, integer}
 use Rattle.table.specs.Kinds.{Field, unused, anyNumber, truthValue, variableNumber, slotNumber, arrayNumber, nodeNumber, Kind, kinds, kindOf}
-use Rattle.kinds.specs.Entries.{codeOf, codeX, codeY, tagOf, rowOf}
-use Rattle.kinds.proofs.Columns.{row-within, at-row}
+use Rattle.kinds.specs.Entries.{codeOf, codeX, codeY, tagOf, bindsOf, entryOf, rowOf}
+use Rattle.kinds.proofs.Columns.{row-within, at-row, tagOf-small, entry-x, entry-y, entry-yields, entry-binds}
 use Rattle.answers.specs.Sections.{arraysFrom, arraysAt, arrayRecords, behindArray, nodeCount}
 use Rattle.answers.proofs.RunEnds.{arrays-on}
 use Rattle.nodes.specs.Facts.{basesOf, limitsOf, placeOf}
 use Rattle.nodes.specs.Known.{NodeFact, Known}
-use Rattle.nodes.proofs.Operands.{tag-small, operand}
+use Rattle.nodes.proofs.Operands.{operand}
 
 -- ---- arrays
 
@@ -133,15 +133,26 @@ module _ (bs : List ℕ) (n : ℕ) (facts : List ℕ) (known : Known bs n facts)
   y-look-ok none e f = rw (e, f) none-ok
   y-look-ok (some k) e f = rw (e, f) (field-ok (k .fieldY))
 
--- a column at a node's kind
-pub column : (f : Option Kind → ℕ) {l : List ℕ} {row kind number : ℕ} → l ≡ map f kinds → row ≡ rowOf kind → kind ≡ number → getD l row 0 ≡ f (kindOf number)
-column f {kind = kind} el er ek = rw (el, er) (at-row f kind 0 ∙ ap (λ (m : ℕ). f (kindOf m)) ek)
+-- what is read out of the entry of a node's kind
+module _ {l : List ℕ} {row kind number : ℕ} where
+  entry-at : l ≡ map entryOf kinds → row ≡ rowOf kind → kind ≡ number → getD l row 0 ≡ entryOf (kindOf number)
+  entry-at el er ek = rw (el, er) (at-row entryOf kind 0 ∙ ap (λ (m : ℕ). entryOf (kindOf m)) ek)
 
--- what stands in the tags' column
+  pub x-coded : {v : ℕ} → v ≡ getD l row 0 % 16 → l ≡ map entryOf kinds → row ≡ rowOf kind → kind ≡ number → v ≡ codeX (kindOf number)
+  x-coded ev el er ek = ev ∙ ap (_% 16) (entry-at el er ek) ∙ entry-x (kindOf number)
+
+  pub y-coded : {v : ℕ} → v ≡ getD l row 0 / 16 % 16 → l ≡ map entryOf kinds → row ≡ rowOf kind → kind ≡ number → v ≡ codeY (kindOf number)
+  y-coded ev el er ek = ev ∙ ap (λ e. e / 16 % 16) (entry-at el er ek) ∙ entry-y (kindOf number)
+
+  pub yields-coded : {v : ℕ} → v ≡ getD l row 0 / 256 % 2 → l ≡ map entryOf kinds → row ≡ rowOf kind → kind ≡ number → v ≡ tagOf (kindOf number)
+  yields-coded ev el er ek = ev ∙ ap (λ e. e / 256 % 2) (entry-at el er ek) ∙ entry-yields (kindOf number)
+
+  pub binds-coded : {v : ℕ} → v ≡ getD l row 0 / 512 % 2 → l ≡ map entryOf kinds → row ≡ rowOf kind → kind ≡ number → v ≡ bindsOf (kindOf number)
+  binds-coded ev el er ek = ev ∙ ap (λ e. e / 512 % 2) (entry-at el er ek) ∙ entry-binds (kindOf number)
+
+-- a kind yields one of two types
 pub small-tag : (o : Option Kind) → tagOf o ≤ 1
-unfolding tagOf
-small-tag none = omega arith
-small-tag (some k) = tag-small (k .yields)
+small-tag o = omega (arith, tagOf-small o)
 
 pub row-small : (kind : ℕ) {row : ℕ} → row ≡ rowOf kind → row < 31
 row-small kind e = rw e (row-within kind)

@@ -67,16 +67,16 @@ fn look(code: usize, x: u32, limits: &[u64; 11], bases: &[usize; 11], facts: &[u
 }
 
 // The fact of a node from those of its operands: the free slots of both, without the bound slot.
-fn joined(a: u32, b: u32, binds: u8, tag: u8) -> u32
+fn joined(a: u32, b: u32, binds: u32, tag: u32) -> u32
     requires { ⌜ tag ≤ 1 ⌝ }
     ensures { λ r. ⌜ r ≡ joinedOf a b binds tag ⌝ }
 {
     let free = (a / 2) | (b / 2);
     let bound = if binds == 1 { a / 2 } else { 0 };
-    (free & (0xffff_ffff - bound)) * 2 + tag as u32
+    (free & (0xffff_ffff - bound)) * 2 + tag
 }
 
-fn make(aux: u8, x: Looked, y: Looked, binds: u8, tag: u8) -> Made
+fn make(aux: u8, x: Looked, y: Looked, binds: u32, tag: u32) -> Made
     requires { ⌜ tag ≤ 1 ⌝ }
     ensures { λ r. ⌜ r ≡ madeOf (eqb aux 0) x y binds tag ⌝ }
 {
@@ -105,7 +105,7 @@ fn beyond(l: Looked) -> bool
 }
 
 // What is wrong with a node that could not be made: 3 before 4, and 4 before 5.
-fn node_fault(aux: u8, x_code: u8, x: Looked, y_code: u8, y: Looked, p: u32) -> Check
+fn node_fault(aux: u8, x_code: u32, x: Looked, y_code: u32, y: Looked, p: u32) -> Check
     ensures { λ r. ⌜ refusalOf r ≡ refuse (faultOf aux «x_code» x «y_code» y) p ⌝ }
 {
     let bx = beyond(x);
@@ -152,7 +152,7 @@ fn enter_arrays(facts: &mut [u32; 5339], table: &[u8], from: usize, count: usize
     }
 }
 
-fn wide(code: u8) -> usize
+fn wide(code: u32) -> usize
     ensures { λ r. ⌜ r ≡ code ⌝ }
 {
     code as usize
@@ -169,18 +169,16 @@ fn nodes(
     requires { ⌜ Nodes (now table) from count declared (now facts) ⌝ }
     ensures { λ r. ⌜ NodesChecked (now (table .entry)) (refusalOf r) (now (facts .exit)) ⌝ }
 {
-    let x_codes = kinds::x_codes();
-    let y_codes = kinds::y_codes();
-    let tags = kinds::yield_tags();
-    let binders = kinds::binder_flags();
+    let kinds = kinds::entries();
     let bases: [usize; 11] = [0, 0, 2, 0, 3, 83, 83, 19, 19, 339, 339];
     let mut limits = declared;
     for n in 0..count {
         let p = from + n;
         let k = kinds::row(table::kind_at(table, p));
         let aux = table::aux_at(table, p);
-        let x_code = x_codes[k];
-        let y_code = y_codes[k];
+        let entry = kinds[k];
+        let x_code = kinds::x_code(entry);
+        let y_code = kinds::y_code(entry);
         let x = look(
             wide(x_code),
             table::x_bits(table, p),
@@ -195,7 +193,7 @@ fn nodes(
             &bases,
             facts,
         );
-        let made = make(aux, x, y, binders[k], tags[k]);
+        let made = make(aux, x, y, kinds::binds(entry), kinds::yields(entry));
         match made {
             Made::Whole(fact) => {
                 facts[NODES + n] = fact;

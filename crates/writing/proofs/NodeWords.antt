@@ -1,7 +1,7 @@
 -- The words of a node, one by one.
 -- Assumes nothing.
 use mathlib.Core.Path.{_≡_, sym, ap, _∙_}
-use Prim.Native.Nat.{ℕ, _+_, _*_, _≤_, _<_}
+use Prim.Native.Nat.{ℕ, _+_, _*_, _%_, _≤_, _<_}
 use native.Mathlib.Omega.{arith}
 use mathlib.Core.Bool.{Bool, true, false, cond}
 use mathlib.Core.List.{List, [], _∷_, map}
@@ -14,8 +14,8 @@ use Rattle.language.specs.Meaning.{arrayAt}
 use Rattle.rules.specs.Rules.{last}
 use Rattle.table.specs.Records.{signed, bitsOf, recordSize, wordAt, kindAt, xAt, yAt}
 use Rattle.table.specs.Kinds.{kinds, kindOf}
-use Rattle.kinds.specs.Entries.{codeX, rowOf}
-use Rattle.kinds.proofs.Columns.{at-row}
+use Rattle.kinds.specs.Entries.{codeX, entryOf, rowOf}
+use Rattle.kinds.proofs.Columns.{at-row, entry-x}
 use Rattle.answers.specs.Sections.{declarations, arrayRecords, arrayOf}
 use Rattle.answers.proofs.Listed.{length-listed}
 use Rattle.answers.proofs.Declared.{arrayAt-declarations}
@@ -57,10 +57,12 @@ not-looked-up A e = rw e
 
 -- ---- fields
 
--- The code of a kind's x in the column of codes.
-pub code-is : {codes : List ℕ} {i k : ℕ} → codes ≡ map codeX kinds → i ≡ k → k < 31 → getD codes i 0 ≡ codeX (kindOf k)
+-- The code of a kind's x, read out of the kind's entry.
+pub code-is : {entries : List ℕ} {i k code : ℕ} → code ≡ getD entries i 0 % 16 → entries ≡ map entryOf kinds → i ≡ k → k < 31 → code ≡ codeX (kindOf k)
 unfolding rowOf
-code-is {codes} {i} {k} e f h = rw (e, f) (ap (λ r. getD (map codeX kinds) r 0) (sym (rw (lt-ltb k 31 h))) ∙ at-row codeX k 0)
+code-is {entries} {i} {k} c e f h =
+    let entry : getD entries i 0 ≡ entryOf (kindOf k) = rw (e, f) (ap (λ r. getD (map entryOf kinds) r 0) (sym (rw (lt-ltb k 31 h))) ∙ at-row entryOf k 0) in
+    c ∙ ap (_% 16) entry ∙ entry-x (kindOf k)
 
 module _ (bs : List ℕ) (p : ℕ) {w : ℕ} (is-x : w ≡ wordAt bs (12 * p + 4)) where
   -- The number that x names.

@@ -14,7 +14,7 @@ ghost use Rattle.sections.specs.Places.{placesOf};
 ghost use Rattle.reading.specs.Readings.{meant};
 use crate::new_constraints::put_constraints;
 use crate::words::node_words;
-use kinds::x_codes;
+use kinds::entries;
 use layout::array_records;
 use layout::fields::kind_at;
 use reading::Reading;
@@ -40,7 +40,7 @@ pub fn put_nodes_and_constraints(s: &[u8], at: Places, reading: Reading, out: &m
 {
     let plans = plans(reading);
     let rows = rows();
-    let codes = x_codes();
+    let kinds = entries();
     let arrays = array_records(s, at);
     let mut firsts = [0u32; MOST_RECORDS];
     let mut seconds = [0u32; MOST_RECORDS];
@@ -51,7 +51,7 @@ pub fn put_nodes_and_constraints(s: &[u8], at: Places, reading: Reading, out: &m
     while n < count {
         let kind = kind_at(s, nodes + n);
         let plan = plan_at(&plans, kind);
-        let words = node_words(s, nodes + n, &codes, &arrays, &firsts, &seconds);
+        let words = node_words(s, nodes + n, &kinds, &arrays, &firsts, &seconds);
         put_rows(
             out,
             RECORD_SIZE * (nodes + next as usize),

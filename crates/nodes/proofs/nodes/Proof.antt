@@ -3,12 +3,11 @@
 use borrow.Author.Needs.{needs}
 use denote.Ref.{now}
 use mathlib.Core.Option.{Option·some-ne-none}
-use Rattle.kinds.specs.Entries.{codeX, codeY, tagOf, bindsOf}
 use Rattle.answers.specs.Sections.{nodeCount}
 use Rattle.answers.specs.Check.{refuse}
 use Rattle.answers.proofs.Faults.{first-zero, first-more, first-at, first-done}
 use Rattle.nodes.proofs.NodeStep.{turn-made, turn-refused}
-use Rattle.nodes.proofs.Turns.{known-more, limits-more, x-look-ok, y-look-ok, column, small-tag, row-small}
+use Rattle.nodes.proofs.Turns.{known-more, limits-more, x-look-ok, y-look-ok, x-coded, y-coded, yields-coded, binds-coded, small-tag, row-small}
 use mathlib.Core.Path.{_≡_, sym, _∙_, ap}
 use mathlib.Core.Option.{none}
 use Prim.Native.Nat.{ℕ, _+_, _-_, _≤_}
@@ -21,98 +20,122 @@ use Rattle.nodes.proofs.nodes.Statement.{statement}
 use Rattle.nodes.proofs.nodes.Tie as tie
 
 abbrev Inv-loop : tie.InvT-loop
-Inv-loop table from count facts₀ x-codes y-codes tags binders bases limits₀ n₀ facts limits n =
+Inv-loop table from count facts₀ kinds bases limits₀ n₀ facts limits n =
     (n ≤ count) × (limits ≡ limitsOf table n) × Known table n facts × (firstFault (λ (m : ℕ). nodeFault table m (nodesAt table + m)) (nodesAt table) n ≡ none)
 
 abbrev μ-loop : tie.MeasureT-loop
-μ-loop table from count facts₀ x-codes y-codes tags binders bases limits₀ n₀ facts limits n = count - n
+μ-loop table from count facts₀ kinds bases limits₀ n₀ facts limits n = count - n
 
-x-codes-requires : tie.Need-x-codes-requires Inv-loop μ-loop
-x-codes-requires c κs = search needs
-
-y-codes-requires : tie.Need-y-codes-requires Inv-loop μ-loop
-y-codes-requires c κs = search needs
-
-yield-tags-requires : tie.Need-yield-tags-requires Inv-loop μ-loop
-yield-tags-requires c κs = search needs
-
-binder-flags-requires : tie.Need-binder-flags-requires Inv-loop μ-loop
-binder-flags-requires c κs = search needs
+entries-requires : tie.Need-entries-requires Inv-loop μ-loop
+entries-requires c κs = search needs
 
 loop-holds : tie.Need-loop-holds Inv-loop μ-loop
-loop-holds c = (omega arith, c .before .before .before .before .before .pre .limited, c .before .before .before .before .before .pre .known, first-zero _ _)
+loop-holds c = (omega arith, c .before .before .pre .limited, c .before .before .pre .known, first-zero _ _)
 
 add-p : tie.Need-add-p Inv-loop μ-loop
-add-p c = omega (arith, c .before .before .before .before .before .before .before .pre .section .within (c .before .loop .n) (omega arith), c .before .before .before .before .before .before .before .pre .section .few)
+add-p c = omega (arith, c .before .before .before .before .pre .section .within (c .before .loop .n) (omega arith), c .before .before .before .before .pre .section .few)
 
 kind-at-requires : tie.Need-kind-at-requires Inv-loop μ-loop
-kind-at-requires c κs = c .before .before .before .before .before .before .before .pre .section .within (c .before .loop .n) (omega arith)
+kind-at-requires c κs = c .before .before .before .before .pre .section .within (c .before .loop .n) (omega arith)
 
 row-requires : tie.Need-row-requires Inv-loop μ-loop
 row-requires c κs = search needs
 
 aux-at-requires : tie.Need-aux-at-requires Inv-loop μ-loop
-aux-at-requires c κs = c .before .before .before .before .before .before .before .before .before .pre .section .within (c .before .before .before .loop .n) (c .before .before .loop-test .taken)
+aux-at-requires c κs = c .before .before .before .before .before .before .pre .section .within (c .before .before .before .loop .n) (c .before .before .loop-test .taken)
 
-array-read-x-code : tie.Need-array-read-x-code Inv-loop μ-loop
-array-read-x-code c = row-small _ (c .before .row .ensures)
+mul-entry : tie.Need-mul-entry Inv-loop μ-loop
+mul-entry c = omega (arith, row-small _ (c .before .row .ensures))
 
-array-read-y-code : tie.Need-array-read-y-code Inv-loop μ-loop
-array-read-y-code c = row-small _ (c .before .row .ensures)
+array-read-entry : tie.Need-array-read-entry Inv-loop μ-loop
+array-read-entry c = row-small _ (c .before .row .ensures)
+
+x-code-requires : tie.Need-x-code-requires Inv-loop μ-loop
+x-code-requires c κs = search needs
+
+y-code-requires : tie.Need-y-code-requires Inv-loop μ-loop
+y-code-requires c κs = search needs
 
 wide-requires : tie.Need-wide-requires Inv-loop μ-loop
 wide-requires c κs = search needs
 
 x-bits-requires : tie.Need-x-bits-requires Inv-loop μ-loop
-x-bits-requires c κs = c .before .before .before .before .before .before .before .before .before .before .before .pre .section .within (c .before .before .before .before .before .loop .n) (c .before .before .before .before .loop-test .taken)
+x-bits-requires c κs =
+    let l = c .before .before .before .before .before .before .before in
+    l .before .before .before .pre .section .within (l .loop .n) (c .before .before .before .before .before .before .loop-test .taken)
 
 look-requires : tie.Need-look-requires Inv-loop μ-loop
 unfolding basesOf
 look-requires c κs =
-    x-look-ok _ (c .before .before .before .before .before .before .before .before .before .loop .n) _ (c .before .before .before .before .before .before .before .before .before .loop .inv .2) (c .before .before .before .x-bits .result) (omega (arith, c .before .before .before .x-bits .ok)) _ (c .before .before .before .before .before .before .before .before .before .loop .inv .1)
-    (c .before .before .before .before .wide .ensures ∙ (column codeX (c .before .before .before .before .before .before .before .before .before .before .before .before .before .x-codes .ensures) (c .before .before .before .before .before .before .row .ensures) (c .before .before .before .before .before .before .before .kind-at .ensures)))
+    let l = c .before .before .before .before .before .before .before .before .before .before .before in
+    let r = c .before .before .before .before .before .before .before .before in
+    x-look-ok _ (l .loop .n) _ (l .loop .inv .2) (c .before .before .before .x-bits .result) (omega (arith, c .before .before .before .x-bits .ok)) _ (l .loop .inv .1)
+    (c .before .before .before .before .wide .ensures ∙ (x-coded (c .before .before .before .before .before .before .x-code .ensures) (l .before .entries .ensures) (r .row .ensures) (r .before .kind-at .ensures)))
 
 wide-requires-2 : tie.Need-wide-requires-2 Inv-loop μ-loop
 wide-requires-2 c κs = search needs
 
 y-bits-requires : tie.Need-y-bits-requires Inv-loop μ-loop
-y-bits-requires c κs = c .before .before .before .before .before .before .before .before .before .before .before .before .before .before .before .before .before .pre .section .within (c .before .before .before .before .before .before .before .before .before .before .before .loop .n) (c .before .before .before .before .before .before .before .before .before .before .loop-test .taken)
+y-bits-requires c κs =
+    let l = c .before .before .before .before .before .before .before .before .before .before .before .before .before in
+    let r = c .before .before .before .before .before .before .before .before .before .before in
+    l .before .before .before .pre .section .within (l .loop .n) (r .before .before .loop-test .taken)
 
 look-requires-2 : tie.Need-look-requires-2 Inv-loop μ-loop
 unfolding basesOf
 look-requires-2 c κs =
-    y-look-ok _ (c .before .before .before .before .before .before .before .before .before .before .before .before .before .before .before .loop .n) _ (c .before .before .before .before .before .before .before .before .before .before .before .before .before .before .before .loop .inv .2) (c .before .before .before .y-bits .result) (omega (arith, c .before .before .before .y-bits .ok)) _ (c .before .before .before .before .before .before .before .before .before .before .before .before .before .before .before .loop .inv .1)
-    (c .before .before .before .before .wide2 .ensures ∙ (column codeY (c .before .before .before .before .before .before .before .before .before .before .before .before .before .before .before .before .before .before .y-codes .ensures) (c .before .before .before .before .before .before .before .before .before .before .before .before .row .ensures) (c .before .before .before .before .before .before .before .before .before .before .before .before .before .kind-at .ensures)))
+    let l = c .before .before .before .before .before .before .before .before .before .before .before .before .before .before .before .before .before in
+    let r = c .before .before .before .before .before .before .before .before .before .before .before .before .before .before in
+    y-look-ok _ (l .loop .n) _ (l .loop .inv .2) (c .before .before .before .y-bits .result) (omega (arith, c .before .before .before .y-bits .ok)) _ (l .loop .inv .1)
+    (c .before .before .before .before .wide2 .ensures ∙ (y-coded (c .before .before .before .before .before .before .before .before .before .before .before .y-code .ensures) (l .before .entries .ensures) (r .row .ensures) (r .before .kind-at .ensures)))
 
-array-read-make : tie.Need-array-read-make Inv-loop μ-loop
-array-read-make c = row-small _ (c .before .before .before .before .before .before .before .before .before .before .before .before .before .row .ensures)
+binds-requires : tie.Need-binds-requires Inv-loop μ-loop
+binds-requires c κs = search needs
 
-array-read-make-2 : tie.Need-array-read-make-2 Inv-loop μ-loop
-array-read-make-2 c = row-small _ (c .before .before .before .before .before .before .before .before .before .before .before .before .before .row .ensures)
+yields-requires : tie.Need-yields-requires Inv-loop μ-loop
+yields-requires c κs = search needs
 
 make-requires : tie.Need-make-requires Inv-loop μ-loop
-make-requires c κs = rw (column tagOf (c .before .before .before .before .before .before .before .before .before .before .before .before .before .before .before .before .before .before .yield-tags .ensures) (c .before .before .before .before .before .before .before .before .before .before .before .before .before .row .ensures) (c .before .before .before .before .before .before .before .before .before .before .before .before .before .before .kind-at .ensures)) (small-tag _)
+make-requires c κs =
+    let l = c .before .before .before .before .before .before .before .before .before .before .before .before .before .before .before .before .before .before .before .before in
+    let r = c .before .before .before .before .before .before .before .before .before .before .before .before .before .before .before .before .before in
+    rw (yields-coded (c .yields .ensures) (l .before .entries .ensures) (r .row .ensures) (r .before .kind-at .ensures)) (small-tag _)
 
 enum-known-made : tie.Need-enum-known-made Inv-loop μ-loop
 enum-known-made c = search needs
 
 add-facts : tie.Need-add-facts Inv-loop μ-loop
-add-facts c = omega (arith, c .before .before .before .before .before .before .before .before .before .before .before .before .before .before .before .before .before .before .before .loop-test .taken, c .before .before .before .before .before .before .before .before .before .before .before .before .before .before .before .before .before .before .before .before .before .before .before .before .before .before .pre .counted, c .before .before .before .before .before .before .before .before .before .before .before .before .before .before .before .before .before .before .before .before .loop .inv .2 .few-nodes)
+add-facts c =
+    let l = c .before .before .before .before .before .before .before .before .before .before .before .before .before .before .before .before .before .before .before .before .before .before .before .before in
+    let r = c .before .before .before .before .before .before .before .before .before .before .before .before .before .before .before .before .before .before .before .before .before in
+    omega (arith, r .before .before .loop-test .taken, l .before .before .before .pre .counted, l .loop .inv .2 .few-nodes)
 
 mul-facts : tie.Need-mul-facts Inv-loop μ-loop
-mul-facts c = omega (arith, c .before .before .before .before .before .before .before .before .before .before .before .before .before .before .before .before .before .before .before .loop-test .taken, c .before .before .before .before .before .before .before .before .before .before .before .before .before .before .before .before .before .before .before .before .before .before .before .before .before .before .pre .counted, c .before .before .before .before .before .before .before .before .before .before .before .before .before .before .before .before .before .before .before .before .loop .inv .2 .few-nodes)
+mul-facts c =
+    let l = c .before .before .before .before .before .before .before .before .before .before .before .before .before .before .before .before .before .before .before .before .before .before .before .before in
+    let r = c .before .before .before .before .before .before .before .before .before .before .before .before .before .before .before .before .before .before .before .before .before in
+    omega (arith, r .before .before .loop-test .taken, l .before .before .before .pre .counted, l .loop .inv .2 .few-nodes)
 
 element-write-facts : tie.Need-element-write-facts Inv-loop μ-loop
-element-write-facts c = omega (arith, c .before .before .before .before .before .before .before .before .before .before .before .before .before .before .before .before .before .before .before .loop-test .taken, c .before .before .before .before .before .before .before .before .before .before .before .before .before .before .before .before .before .before .before .before .before .before .before .before .before .before .pre .counted, c .before .before .before .before .before .before .before .before .before .before .before .before .before .before .before .before .before .before .before .before .loop .inv .2 .few-nodes)
+element-write-facts c =
+    let l = c .before .before .before .before .before .before .before .before .before .before .before .before .before .before .before .before .before .before .before .before .before .before .before .before in
+    let r = c .before .before .before .before .before .before .before .before .before .before .before .before .before .before .before .before .before .before .before .before .before in
+    omega (arith, r .before .before .loop-test .taken, l .before .before .before .pre .counted, l .loop .inv .2 .few-nodes)
 
 add-limits : tie.Need-add-limits Inv-loop μ-loop
-add-limits c = omega (arith, c .before .before .before .before .before .before .before .before .before .before .before .before .before .before .before .before .before .before .before .loop-test .taken, c .before .before .before .before .before .before .before .before .before .before .before .before .before .before .before .before .before .before .before .before .before .before .before .before .before .before .pre .counted, c .before .before .before .before .before .before .before .before .before .before .before .before .before .before .before .before .before .before .before .before .loop .inv .2 .few-nodes)
+add-limits c =
+    let l = c .before .before .before .before .before .before .before .before .before .before .before .before .before .before .before .before .before .before .before .before .before .before .before .before in
+    let r = c .before .before .before .before .before .before .before .before .before .before .before .before .before .before .before .before .before .before .before .before .before in
+    omega (arith, r .before .before .loop-test .taken, l .before .before .before .pre .counted, l .loop .inv .2 .few-nodes)
 
 array-write-limits : tie.Need-array-write-limits Inv-loop μ-loop
 array-write-limits c = search needs
 
 add-limits-2 : tie.Need-add-limits-2 Inv-loop μ-loop
-add-limits-2 c = omega (arith, c .before .before .before .before .before .before .before .before .before .before .before .before .before .before .before .before .before .before .before .loop-test .taken, c .before .before .before .before .before .before .before .before .before .before .before .before .before .before .before .before .before .before .before .before .before .before .before .before .before .before .pre .counted, c .before .before .before .before .before .before .before .before .before .before .before .before .before .before .before .before .before .before .before .before .loop .inv .2 .few-nodes)
+add-limits-2 c =
+    let l = c .before .before .before .before .before .before .before .before .before .before .before .before .before .before .before .before .before .before .before .before .before .before .before .before in
+    let r = c .before .before .before .before .before .before .before .before .before .before .before .before .before .before .before .before .before .before .before .before .before in
+    omega (arith, r .before .before .loop-test .taken, l .before .before .before .pre .counted, l .loop .inv .2 .few-nodes)
 
 array-write-limits-2 : tie.Need-array-write-limits-2 Inv-loop μ-loop
 array-write-limits-2 c = search needs
@@ -121,7 +144,10 @@ enum-told : tie.Need-enum-told Inv-loop μ-loop
 enum-told c = search needs
 
 cast-node-fault : tie.Need-cast-node-fault Inv-loop μ-loop
-cast-node-fault c = omega (arith, c .before .before .before .before .before .before .before .before .before .before .before .before .before .before .before .before .before .before .before .before .before .before .before .before .before .pre .section .within (c .before .before .before .before .before .before .before .before .before .before .before .before .before .before .before .before .before .before .before .loop .n) (c .before .before .before .before .before .before .before .before .before .before .before .before .before .before .before .before .before .before .loop-test .taken), c .before .before .before .before .before .before .before .before .before .before .before .before .before .before .before .before .before .before .before .before .before .before .before .before .before .pre .section .few)
+cast-node-fault c =
+    let l = c .before .before .before .before .before .before .before .before .before .before .before .before .before .before .before .before .before .before .before .before .before .before .before in
+    let r = c .before .before .before .before .before .before .before .before .before .before .before .before .before .before .before .before .before .before .before .before in
+    omega (arith, l .before .before .before .pre .section .within (l .loop .n) (r .before .before .loop-test .taken), l .before .before .before .pre .section .few)
 
 node-fault-requires : tie.Need-node-fault-requires Inv-loop μ-loop
 node-fault-requires c κs = search needs
@@ -129,46 +155,55 @@ node-fault-requires c κs = search needs
 returns : tie.Need-returns Inv-loop μ-loop
 unfolding basesOf
 returns c =
-    let refused : _ = turn-refused _ (c .before .before .before .before .before .before .before .before .before .before .before .before .before .before .before .before .before .before .before .before .loop .n) _ (c .before .before .before .before .before .before .before .before .before .before .before .before .before .before .before .before .before .before .before .before .loop .inv .2) (ap (λ (q : ℕ). q + c .before .before .before .before .before .before .before .before .before .before .before .before .before .before .before .before .before .before .before .before .loop .n) (c .before .before .before .before .before .before .before .before .before .before .before .before .before .before .before .before .before .before .before .before .before .before .before .before .before .before .pre .first)) (c .before .before .before .before .before .before .before .before .before .before .before .before .before .before .before .before .before .before .before .before .loop .inv .1)
-    (c .before .before .before .before .before .before .before .before .before .before .before .before .before .before .before .before .aux-at .ensures) (c .before .before .before .before .before .before .before .before .before .before .before .before .before .before .x-bits .ensures) (c .before .before .before .before .before .before .before .before .y-bits .ensures)
-    (omega (arith, c .before .before .before .before .before .before .before .before .before .before .before .before .before .before .x-bits .ok)) (omega (arith, c .before .before .before .before .before .before .before .before .y-bits .ok))
-    (column codeX (c .before .before .before .before .before .before .before .before .before .before .before .before .before .before .before .before .before .before .before .before .before .before .before .before .x-codes .ensures) (c .before .before .before .before .before .before .before .before .before .before .before .before .before .before .before .before .before .row .ensures) (c .before .before .before .before .before .before .before .before .before .before .before .before .before .before .before .before .before .before .kind-at .ensures))
-    (column codeY (c .before .before .before .before .before .before .before .before .before .before .before .before .before .before .before .before .before .before .before .before .before .before .before .y-codes .ensures) (c .before .before .before .before .before .before .before .before .before .before .before .before .before .before .before .before .before .row .ensures) (c .before .before .before .before .before .before .before .before .before .before .before .before .before .before .before .before .before .before .kind-at .ensures))
-    (column bindsOf (c .before .before .before .before .before .before .before .before .before .before .before .before .before .before .before .before .before .before .before .before .before .binder-flags .ensures) (c .before .before .before .before .before .before .before .before .before .before .before .before .before .before .before .before .before .row .ensures) (c .before .before .before .before .before .before .before .before .before .before .before .before .before .before .before .before .before .before .kind-at .ensures))
-    (column tagOf (c .before .before .before .before .before .before .before .before .before .before .before .before .before .before .before .before .before .before .before .before .before .before .yield-tags .ensures) (c .before .before .before .before .before .before .before .before .before .before .before .before .before .before .before .before .before .row .ensures) (c .before .before .before .before .before .before .before .before .before .before .before .before .before .before .before .before .before .before .kind-at .ensures))
-    (c .before .before .before .before .before .before .before .before .before .before .before .before .before .before .before .wide .ensures) (c .before .before .before .before .before .before .before .before .before .wide2 .ensures) (c .before .before .before .before .before .before .before .before .before .before .look .ensures) (c .before .before .before .before .look2 .ensures) (c .before .before .before .make .ensures) (c .before .enum-told .given .1) in
+    let l = c .before .before .before .before .before .before .before .before .before .before .before .before .before .before .before .before .before .before .before .before .before .before .before .before in
+    let r = c .before .before .before .before .before .before .before .before .before .before .before .before .before .before .before .before .before .before .before .before .before in
+    let refused : _ = turn-refused _ (l .loop .n) _ (l .loop .inv .2) (ap (λ (q : ℕ). q + l .loop .n) (l .before .before .before .pre .first)) (l .loop .inv .1)
+    (c .before .before .before .before .before .before .before .before .before .before .before .before .before .before .before .before .before .before .before .before .aux-at .ensures) (c .before .before .before .before .before .before .before .before .before .before .before .before .before .before .before .before .x-bits .ensures) (c .before .before .before .before .before .before .before .before .before .before .y-bits .ensures)
+    (omega (arith, c .before .before .before .before .before .before .before .before .before .before .before .before .before .before .before .before .x-bits .ok)) (omega (arith, c .before .before .before .before .before .before .before .before .before .before .y-bits .ok))
+    (x-coded (c .before .before .before .before .before .before .before .before .before .before .before .before .before .before .before .before .before .before .before .x-code .ensures) (l .before .entries .ensures) (r .row .ensures) (r .before .kind-at .ensures))
+    (y-coded (c .before .before .before .before .before .before .before .before .before .before .before .before .before .before .before .before .before .before .y-code .ensures) (l .before .entries .ensures) (r .row .ensures) (r .before .kind-at .ensures))
+    (binds-coded (c .before .before .before .before .before .binds .ensures) (l .before .entries .ensures) (r .row .ensures) (r .before .kind-at .ensures))
+    (yields-coded (c .before .before .before .before .yields .ensures) (l .before .entries .ensures) (r .row .ensures) (r .before .kind-at .ensures))
+    (c .before .before .before .before .before .before .before .before .before .before .before .before .before .before .before .before .before .wide .ensures) (c .before .before .before .before .before .before .before .before .before .before .before .wide2 .ensures) (c .before .before .before .before .before .before .before .before .before .before .before .before .look .ensures) (c .before .before .before .before .before .before .look2 .ensures) (c .before .before .before .make .ensures) (c .before .enum-told .given .1) in
     record {
       first-fault =
-          c .node-fault .ensures ∙ ap (refuse _) (ap (λ (q : ℕ). q + c .before .before .before .before .before .before .before .before .before .before .before .before .before .before .before .before .before .before .before .before .loop .n) (c .before .before .before .before .before .before .before .before .before .before .before .before .before .before .before .before .before .before .before .before .before .before .before .before .before .before .pre .first)) ∙ sym (first-at _ _ (c .before .before .before .before .before .before .before .before .before .before .before .before .before .before .before .before .before .before .before .before .loop .n) (c .before .before .before .before .before .before .before .before .before .before .before .before .before .before .before .before .before .before .before .before .loop .inv .3) refused (omega (arith, c .before .before .before .before .before .before .before .before .before .before .before .before .before .before .before .before .before .before .before .loop-test .taken, c .before .before .before .before .before .before .before .before .before .before .before .before .before .before .before .before .before .before .before .before .before .before .before .before .before .before .pre .counted)));
+          c .node-fault .ensures ∙ ap (refuse _) (ap (λ (q : ℕ). q + l .loop .n) (l .before .before .before .pre .first)) ∙ sym (first-at _ _ (l .loop .n) (l .loop .inv .3) refused (omega (arith, r .before .before .loop-test .taken, l .before .before .before .pre .counted)));
       all-known = λ e. absurd (Option·some-ne-none _ (sym (c .node-fault .ensures) ∙ e));
     }
 
 add-n : tie.Need-add-n Inv-loop μ-loop
-add-n c = omega (arith, c .before .before .before .before .before .before .before .before .before .before .before .before .before .before .before .before .before .before .before .loop-test .taken, c .before .before .before .before .before .before .before .before .before .before .before .before .before .before .before .before .before .before .before .before .before .before .before .before .before .before .pre .counted, c .before .before .before .before .before .before .before .before .before .before .before .before .before .before .before .before .before .before .before .before .loop .inv .2 .few-nodes)
+add-n c =
+    let l = c .before .before .before .before .before .before .before .before .before .before .before .before .before .before .before .before .before .before .before .before .before .before .before .before in
+    let r = c .before .before .before .before .before .before .before .before .before .before .before .before .before .before .before .before .before .before .before .before .before in
+    omega (arith, r .before .before .loop-test .taken, l .before .before .before .pre .counted, l .loop .inv .2 .few-nodes)
 
 loop-less : tie.Need-loop-less Inv-loop μ-loop
-loop-less c = omega (arith, c .before .before .before .before .before .before .before .before .before .before .before .before .before .before .before .before .before .before .before .loop-test .taken)
+loop-less c =
+    let r = c .before .before .before .before .before .before .before .before .before .before .before .before .before .before .before .before .before .before .before .before .before in
+    omega (arith, r .before .before .loop-test .taken)
 
 loop-again : tie.Need-loop-again Inv-loop μ-loop
 unfolding basesOf
 loop-again c =
-    let made : _ = turn-made _ (c .before .before .before .before .before .before .before .before .before .before .before .before .before .before .before .before .before .before .before .before .loop .n) _ (c .before .before .before .before .before .before .before .before .before .before .before .before .before .before .before .before .before .before .before .before .loop .inv .2) (ap (λ (q : ℕ). q + c .before .before .before .before .before .before .before .before .before .before .before .before .before .before .before .before .before .before .before .before .loop .n) (c .before .before .before .before .before .before .before .before .before .before .before .before .before .before .before .before .before .before .before .before .before .before .before .before .before .before .pre .first)) (c .before .before .before .before .before .before .before .before .before .before .before .before .before .before .before .before .before .before .before .before .loop .inv .1)
-    (c .before .before .before .before .before .before .before .before .before .before .before .before .before .before .before .before .aux-at .ensures) (c .before .before .before .before .before .before .before .before .before .before .before .before .before .before .x-bits .ensures) (c .before .before .before .before .before .before .before .before .y-bits .ensures)
-    (omega (arith, c .before .before .before .before .before .before .before .before .before .before .before .before .before .before .x-bits .ok)) (omega (arith, c .before .before .before .before .before .before .before .before .y-bits .ok))
-    (column codeX (c .before .before .before .before .before .before .before .before .before .before .before .before .before .before .before .before .before .before .before .before .before .before .before .before .x-codes .ensures) (c .before .before .before .before .before .before .before .before .before .before .before .before .before .before .before .before .before .row .ensures) (c .before .before .before .before .before .before .before .before .before .before .before .before .before .before .before .before .before .before .kind-at .ensures))
-    (column codeY (c .before .before .before .before .before .before .before .before .before .before .before .before .before .before .before .before .before .before .before .before .before .before .before .y-codes .ensures) (c .before .before .before .before .before .before .before .before .before .before .before .before .before .before .before .before .before .row .ensures) (c .before .before .before .before .before .before .before .before .before .before .before .before .before .before .before .before .before .before .kind-at .ensures))
-    (column bindsOf (c .before .before .before .before .before .before .before .before .before .before .before .before .before .before .before .before .before .before .before .before .before .binder-flags .ensures) (c .before .before .before .before .before .before .before .before .before .before .before .before .before .before .before .before .before .row .ensures) (c .before .before .before .before .before .before .before .before .before .before .before .before .before .before .before .before .before .before .kind-at .ensures))
-    (column tagOf (c .before .before .before .before .before .before .before .before .before .before .before .before .before .before .before .before .before .before .before .before .before .before .yield-tags .ensures) (c .before .before .before .before .before .before .before .before .before .before .before .before .before .before .before .before .before .row .ensures) (c .before .before .before .before .before .before .before .before .before .before .before .before .before .before .before .before .before .before .kind-at .ensures))
-    (c .before .before .before .before .before .before .before .before .before .before .before .before .before .before .before .wide .ensures) (c .before .before .before .before .before .before .before .before .before .wide2 .ensures) (c .before .before .before .before .before .before .before .before .before .before .look .ensures) (c .before .before .before .before .look2 .ensures) (c .before .before .before .make .ensures) (omega (arith, c .before .before .before .before .before .before .before .before .before .before .before .before .before .before .before .before .before .before .before .loop-test .taken, c .before .before .before .before .before .before .before .before .before .before .before .before .before .before .before .before .before .before .before .before .before .before .before .before .before .before .pre .counted)) (c .before .made .given .1) in (
-      omega (arith, c .before .before .before .before .before .before .before .before .before .before .before .before .before .before .before .before .before .before .before .loop-test .taken),
-      rw (c .before .before .before .before .before .before .before .before .before .before .before .before .before .before .before .before .before .before .before .before .loop .inv .1) (limits-more _ (c .before .before .before .before .before .before .before .before .before .before .before .before .before .before .before .before .before .before .before .before .loop .n)),
-      known-more _ (c .before .before .before .before .before .before .before .before .before .before .before .before .before .before .before .before .before .before .before .before .loop .n) _ (c .before .before .before .before .before .before .before .before .before .before .before .before .before .before .before .before .before .before .before .before .loop .inv .2) (omega (arith, c .before .before .before .before .before .before .before .before .before .before .before .before .before .before .before .before .before .before .before .loop-test .taken, c .before .before .before .before .before .before .before .before .before .before .before .before .before .before .before .before .before .before .before .before .before .before .before .before .before .before .pre .counted)) (made .1),
-      first-more _ _ (c .before .before .before .before .before .before .before .before .before .before .before .before .before .before .before .before .before .before .before .before .loop .n) (c .before .before .before .before .before .before .before .before .before .before .before .before .before .before .before .before .before .before .before .before .loop .inv .3) (made .0),
+    let l = c .before .before .before .before .before .before .before .before .before .before .before .before .before .before .before .before .before .before .before .before .before .before .before .before in
+    let r = c .before .before .before .before .before .before .before .before .before .before .before .before .before .before .before .before .before .before .before .before .before in
+    let made : _ = turn-made _ (l .loop .n) _ (l .loop .inv .2) (ap (λ (q : ℕ). q + l .loop .n) (l .before .before .before .pre .first)) (l .loop .inv .1)
+    (c .before .before .before .before .before .before .before .before .before .before .before .before .before .before .before .before .before .before .before .before .aux-at .ensures) (c .before .before .before .before .before .before .before .before .before .before .before .before .before .before .before .before .x-bits .ensures) (c .before .before .before .before .before .before .before .before .before .before .y-bits .ensures)
+    (omega (arith, c .before .before .before .before .before .before .before .before .before .before .before .before .before .before .before .before .x-bits .ok)) (omega (arith, c .before .before .before .before .before .before .before .before .before .before .y-bits .ok))
+    (x-coded (c .before .before .before .before .before .before .before .before .before .before .before .before .before .before .before .before .before .before .before .x-code .ensures) (l .before .entries .ensures) (r .row .ensures) (r .before .kind-at .ensures))
+    (y-coded (c .before .before .before .before .before .before .before .before .before .before .before .before .before .before .before .before .before .before .y-code .ensures) (l .before .entries .ensures) (r .row .ensures) (r .before .kind-at .ensures))
+    (binds-coded (c .before .before .before .before .before .binds .ensures) (l .before .entries .ensures) (r .row .ensures) (r .before .kind-at .ensures))
+    (yields-coded (c .before .before .before .before .yields .ensures) (l .before .entries .ensures) (r .row .ensures) (r .before .kind-at .ensures))
+    (c .before .before .before .before .before .before .before .before .before .before .before .before .before .before .before .before .before .wide .ensures) (c .before .before .before .before .before .before .before .before .before .before .before .wide2 .ensures) (c .before .before .before .before .before .before .before .before .before .before .before .before .look .ensures) (c .before .before .before .before .before .before .look2 .ensures) (c .before .before .before .make .ensures) (omega (arith, r .before .before .loop-test .taken, l .before .before .before .pre .counted)) (c .before .made .given .1) in (
+      omega (arith, r .before .before .loop-test .taken),
+      rw (l .loop .inv .1) (limits-more _ (l .loop .n)),
+      known-more _ (l .loop .n) _ (l .loop .inv .2) (omega (arith, r .before .before .loop-test .taken, l .before .before .before .pre .counted)) (made .1),
+      first-more _ _ (l .loop .n) (l .loop .inv .3) (made .0),
     )
 
 returns-2 : tie.Need-returns-2 Inv-loop μ-loop
 returns-2 c =
-    let e : c .before .loop .n ≡ nodeCount (now (c .before .before .before .before .before .before .before .args .table)) = omega (arith, c .before .before .before .before .before .before .before .pre .counted) in
+    let e : c .before .loop .n ≡ nodeCount (now (c .before .before .before .before .args .table)) = omega (arith, c .before .before .before .before .pre .counted) in
     record { first-fault = first-done _ _ (c .before .loop .inv .3) e; all-known = λ _. rw e at (c .before .loop .inv .2) }
 
 pub nodes-spec : {M : Type 1} → statement M
@@ -177,25 +212,24 @@ nodes-spec =
     (tie.spec
     Inv-loop
     μ-loop
-    x-codes-requires
-    y-codes-requires
-    yield-tags-requires
-    binder-flags-requires
+    entries-requires
     loop-holds
     add-p
     kind-at-requires
     row-requires
     aux-at-requires
-    array-read-x-code
-    array-read-y-code
+    mul-entry
+    array-read-entry
+    x-code-requires
+    y-code-requires
     wide-requires
     x-bits-requires
     look-requires
     wide-requires-2
     y-bits-requires
     look-requires-2
-    array-read-make
-    array-read-make-2
+    binds-requires
+    yields-requires
     make-requires
     enum-known-made
     add-facts

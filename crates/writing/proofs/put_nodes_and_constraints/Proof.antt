@@ -23,11 +23,11 @@ use Rattle.writing.proofs.put_nodes_and_constraints.Statement.{statemen
 use Rattle.writing.proofs.put_nodes_and_constraints.Tie as tie
 
 abbrev Inv-loop : tie.InvT-loop
-Inv-loop s at out₀ plans rows codes arrays firsts₀ seconds₀ nodes count next₀ n₀ out firsts seconds next n =
+Inv-loop s at out₀ plans rows kinds arrays firsts₀ seconds₀ nodes count next₀ n₀ out firsts seconds next n =
     ((ρ : Reading) → plans ≡ rulePlans ρ → Standing s ρ out₀ out firsts seconds next n) × (n ≤ count)
 
 abbrev μ-loop : tie.MeasureT-loop
-μ-loop s at out₀ plans rows codes arrays firsts₀ seconds₀ nodes count next₀ n₀ out firsts seconds next n =
+μ-loop s at out₀ plans rows kinds arrays firsts₀ seconds₀ nodes count next₀ n₀ out firsts seconds next n =
     count - n
 
 -- what stands at a turn, and what the turn knows
@@ -58,8 +58,8 @@ plans-requires c κs = tt
 rows-requires : tie.Need-rows-requires Inv-loop μ-loop
 rows-requires c κs = tt
 
-x-codes-requires : tie.Need-x-codes-requires Inv-loop μ-loop
-x-codes-requires c κs = tt
+entries-requires : tie.Need-entries-requires Inv-loop μ-loop
+entries-requires c κs = tt
 
 array-records-requires : tie.Need-array-records-requires Inv-loop μ-loop
 array-records-requires c κs = let e = c .before .before .before .before .before in (checked (e .args .s .now) (e .pre .0), e .pre .1 .0)
@@ -83,7 +83,7 @@ add-node-words : tie.Need-add-node-words Inv-loop μ-loop
 add-node-words c = omega (arith, node-turn (c .before .before .before) .few)
 
 node-words-requires : tie.Need-node-words-requires Inv-loop μ-loop
-node-words-requires c κs = let i = c .before .before .before .before .before .before .before in let e = c .before .before .before .before .before .before .before .before .before .before .before .before .before .before .before .before in (node-turn i .known, (known-arrays (e .args .s .now) (e .pre .0), (c .before .before .before .before .before .before .before .before .before .before .before .x-codes .ensures, (c .before .before .before .before .before .before .before .before .before .before .array-records .ensures, (standing i .firsts-held .sized, standing i .seconds-held .sized)))))
+node-words-requires c κs = let i = c .before .before .before .before .before .before .before in let e = c .before .before .before .before .before .before .before .before .before .before .before .before .before .before .before .before in (node-turn i .known, (known-arrays (e .args .s .now) (e .pre .0), (c .before .before .before .before .before .before .before .before .before .before .before .entries .ensures, (c .before .before .before .before .before .before .before .before .before .before .array-records .ensures, (standing i .firsts-held .sized, standing i .seconds-held .sized)))))
 
 cast-put-rows : tie.Need-cast-put-rows Inv-loop μ-loop
 cast-put-rows c = omega (arith, node-turn (c .before .before .before .before .before .before .before .before .before) .small)
@@ -176,7 +176,7 @@ put-nodes-and-constraints-spec =
     μ-loop
     plans-requires
     rows-requires
-    x-codes-requires
+    entries-requires
     array-records-requires
     sub-count
     loop-holds
