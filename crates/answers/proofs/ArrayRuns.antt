@@ -1,5 +1,4 @@
 -- The arrays of a table: what the check gives of them, said without its walk, and that this determines what the walk finds.
--- Assumes nothing.
 use mathlib.Core.Path.{_≡_, refl}
 use Prim.Native.Nat.{ℕ, zero, suc, _+_, _≤_, _<_}
 use native.Mathlib.Nat.{not-suc-le-zero, le-of-suc-le-suc, add-zero, suc-add, add-suc}

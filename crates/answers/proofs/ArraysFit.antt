@@ -1,6 +1,5 @@
 -- Arrays that have passed the check are declared as they should be: few enough, near enough, with 1 to 1,024 elements of the right type, all
 -- within the table.
--- Assumes nothing.
 use mathlib.Core.Path.{_≡_}
 use Prim.Native.Nat.{ℕ, suc, _+_, _-_, _≤_, _<_}
 use native.Mathlib.Omega.{arith}

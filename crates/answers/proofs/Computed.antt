@@ -1,6 +1,5 @@
 -- The answers, opened: each call of the definitions as a function that computes on closed inputs. The trials beside this file are stated with
 -- these, so that the long line of what unfolds stands once.
--- Assumes nothing.
 use Prim.Native.Nat.{ℕ}
 use mathlib.Core.List.{List}
 use mathlib.Core.Option.{bind, orElse}

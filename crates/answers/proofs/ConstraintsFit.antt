@@ -1,5 +1,4 @@
 -- The constraints of a table: the check finds no fault in a CN record exactly where it names a Boolean node with no free slot.
--- Assumes nothing.
 use mathlib.Core.Path.{_≡_}
 use Prim.Native.Nat.{ℕ, zero, suc, _<_}
 use native.Mathlib.Nat.{not-suc-le-zero}

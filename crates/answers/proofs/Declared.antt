@@ -1,6 +1,5 @@
 -- What a table declares, by number: the variable, slot, array or row of each number is the one of its record, and there are as many as there
 -- are records.
--- Assumes nothing.
 use mathlib.Core.Path.{_≡_}
 use Prim.Native.Nat.{ℕ, _+_, _≤_, _<_}
 use mathlib.Core.List.{List, map}

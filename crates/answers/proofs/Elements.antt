@@ -1,5 +1,4 @@
 -- The elements of arrays: what the check's test of an EL record says, and that a variable among them is declared with the array's type.
--- Assumes nothing.
 use mathlib.Core.Path.{_≡_}
 use Prim.Native.Nat.{ℕ}
 use mathlib.Core.Bool.{Bool, true, false, not, _&&_, _||_}

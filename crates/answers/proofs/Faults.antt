@@ -1,6 +1,5 @@
 -- Laws of faults: of a test, of one fault behind another, and the first fault of a section, which is what a loop that stops at the first
 -- faulty record has found.
--- Assumes nothing.
 use mathlib.Core.Path.{_≡_, refl, sym, _∙_, ap}
 use Prim.Native.Nat.{ℕ, zero, suc, _+_, _≤_, _<_}
 use native.Mathlib.Nat.{not-suc-le-zero}

@@ -1,5 +1,4 @@
 -- The fields of a node record: the check finds no fault in a field exactly where its number is allowed and names something of the right type.
--- Assumes nothing.
 use mathlib.Core.Path.{_≡_, refl, sym, ap, _∙_, subst}
 use Prim.Native.Nat.{ℕ, _+_, _<_}
 use mathlib.Core.List.{List}

@@ -1,5 +1,4 @@
 -- The row of each kind by its fields: what it yields, which nodes it names, and which slots are free in its tree.
--- Assumes nothing.
 use mathlib.Core.Path.{_≡_, refl}
 use mathlib.Core.Bool.{Bool, true, false, not, _&&_, _||_}
 use mathlib.Core.List.{List}

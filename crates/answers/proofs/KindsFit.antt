@@ -1,5 +1,4 @@
 -- The table of kinds is right: where a record's fields name what their kind asks for, its row fits; and a kind yields what its row yields.
--- Assumes nothing.
 use mathlib.Core.Path.{_≡_, refl}
 use Prim.Native.Nat.{ℕ}
 use mathlib.Core.List.{List}

@@ -1,5 +1,4 @@
 -- Laws of `listed`: how long f 0, f 1, .., f (n − 1) is, which element stands where, what holds of each, and when two are the same.
--- Assumes nothing.
 use mathlib.Core.Path.{_≡_, refl, sym, _∙_}
 use Prim.Native.Nat.{ℕ, zero, suc, _≤_, _<_}
 use native.Mathlib.Nat.{not-suc-le-zero, le-of-suc-le-suc}

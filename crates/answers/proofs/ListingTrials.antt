@@ -44,7 +44,7 @@ choices-refused : listed [] ∷ map (λ b. listed (b ∷ p4)) (48 ∷ 52 ∷ 99 
 unfolding p4 refused-choice listed
 choices-refused = refl
 
--- `3` alone is `refused 1 0`; a table whose twelfth record is a node of kind 0 is `refused 3 12`
+-- `3` alone is `refused 1 0`; a table whose record 12 is a node of kind 0 is `refused 3 12`
 tables-refused : listed (51 ∷ []) ∷ listed (51 ∷ headed (replicate 11 (at VR 1 (pos 0) (pos 1)) ++ (at ND 0 (pos 0) (pos 0) ∷ []))) ∷ [] ≡
     (114 ∷ 101 ∷ 102 ∷ 117 ∷ 115 ∷ 101 ∷ 100 ∷ 32 ∷ 49 ∷ 32 ∷ 48 ∷ 10 ∷ [])
     ∷ (114 ∷ 101 ∷ 102 ∷ 117 ∷ 115 ∷ 101 ∷ 100 ∷ 32 ∷ 51 ∷ 32 ∷ 49 ∷ 50 ∷ 10 ∷ [])

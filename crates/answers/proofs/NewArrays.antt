@@ -1,5 +1,4 @@
 -- The arrays of a translation stand where they stood, with the elements that they had, and have no fault.
--- Assumes nothing.
 use mathlib.Core.Path.{_≡_, refl, ap, _∙_}
 use Prim.Native.Nat.{ℕ, suc, _+_, _≤_, _<_}
 use native.Mathlib.Omega.{arith}

@@ -1,5 +1,4 @@
 -- The constraints of a table that is translated, and P of each: Boolean nodes in which no slot is free.
--- Assumes nothing.
 use mathlib.Core.Path.{_≡_}
 use Prim.Native.Nat.{ℕ, _<_}
 use mathlib.Core.Bool.{false}

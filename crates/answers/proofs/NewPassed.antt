@@ -1,5 +1,4 @@
 -- "It is never refused by the check": the check finds no fault in a translation.
--- Assumes nothing.
 use mathlib.Core.Path.{_≡_, sym, _∙_}
 use Prim.Native.Nat.{ℕ, _+_, _*_, _≤_, _<_}
 use native.Mathlib.Nat.{mul-mod-right, mul-one, mul-le-mul-left}

@@ -1,5 +1,4 @@
 -- Where the records of a translation stand: the header, the copied declarations, the nodes, the constraints.
--- Assumes nothing.
 use mathlib.Core.Path.{_≡_, refl, sym, ap, _∙_}
 use Prim.Native.Nat.{ℕ, suc, _+_, _*_, _-_, _≤_, _<_}
 use native.Mathlib.Nat.{le-refl, add-assoc, mul-one, mul-suc, mul-le-mul-left, mul-div-right}

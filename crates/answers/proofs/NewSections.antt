@@ -1,6 +1,5 @@
 -- The sections of a translation: variables, slots and arrays stand where they stood and have no fault, then come the new nodes and as many
 -- constraints as there were.
--- Assumes nothing.
 use mathlib.Core.Path.{_≡_, refl}
 use Prim.Native.Nat.{ℕ, _+_, _-_, _≤_, _<_}
 use native.Mathlib.Omega.{arith}

@@ -1,5 +1,4 @@
 -- What a translation declares and holds: the same declarations, the rows of the rules, and for each constraint P of its node.
--- Assumes nothing.
 use mathlib.Core.Path.{_≡_, refl, sym, ap, _∙_}
 use Prim.Native.Nat.{ℕ, suc, _+_, _≤_, _<_}
 use native.Mathlib.Omega.{arith}

@@ -1,5 +1,4 @@
 -- What the records of a translation read as: every number written has 32 bits, so each is read back.
--- Assumes nothing.
 use mathlib.Core.Path.{refl}
 use Prim.Native.Nat.{ℕ, suc, _+_, _≤_, _<_}
 use native.Mathlib.Omega.{arith}

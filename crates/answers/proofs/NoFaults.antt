@@ -1,5 +1,4 @@
 -- The check, part by part: it finds no fault exactly where none of its parts does.
--- Assumes nothing.
 use mathlib.Core.Path.{_≡_, refl}
 use Prim.Native.Nat.{ℕ, _+_, _%_, _≤_, _<_}
 use native.Mathlib.Omega.{arith}

@@ -1,5 +1,4 @@
 -- The tree of each node record: what it yields, and which slots are free in it.
--- Assumes nothing.
 use mathlib.Core.Path.{_≡_, refl, ap, _∙_}
 use mathlib.Core.Bool.{false, not, _&&_, _||_}
 use mathlib.Core.List.{List}

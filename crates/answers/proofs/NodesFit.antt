@@ -1,5 +1,4 @@
 -- The nodes of a table: the check finds no fault in a node record exactly where its kind exists and its fields fit; then its row fits.
--- Assumes nothing.
 use mathlib.Core.Path.{_≡_, refl}
 use Prim.Native.Nat.{ℕ, zero, suc, _<_}
 use native.Mathlib.Omega.{arith}

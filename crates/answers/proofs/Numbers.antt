@@ -1,5 +1,4 @@
 -- The numbers of refusals: those of each fault pass any test that the numbers which document 01 lists for it pass.
--- Assumes nothing.
 use Prim.Native.Nat.{ℕ, zero, suc, _+_, _*_, _≤_}
 use mathlib.Core.Bool.{Bool, true, false, cond, _&&_}
 use mathlib.Core.List.{List}

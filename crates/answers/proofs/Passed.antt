@@ -1,5 +1,4 @@
 -- What the check gives: everything that holds of a table in which it finds no fault.
--- Assumes nothing.
 use mathlib.Core.Path.{_≡_}
 use Prim.Native.Nat.{ℕ, _+_, _*_, _-_, _≤_, _<_}
 use native.Mathlib.Nat.{le-of-mul-le-mul-left, mul-one}

@@ -1,5 +1,4 @@
 -- The smallest tables of each refusal number, and sound ones beside them: tables of rows, each with one computed claim.
--- Assumes nothing.
 use mathlib.Core.Path.{_≡_, refl}
 use Prim.Native.Nat.{ℕ}
 use mathlib.Core.Bool.{Bool, true, false}

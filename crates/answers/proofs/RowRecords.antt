@@ -1,5 +1,4 @@
 -- The record of a row: the kind, x and y with which a row is written, and that they are read back as the row and fit where it fits.
--- Assumes nothing.
 use mathlib.Core.Path.{_≡_, refl}
 use Prim.Native.Nat.{ℕ}
 use mathlib.Core.Bool.{true, false}

@@ -1,5 +1,4 @@
 -- The numbers of a row have 32 bits: what it names is counted within 31 bits, and a constant has 32 by itself.
--- Assumes nothing.
 use mathlib.Core.Path.{_≡_, refl}
 use Prim.Native.Nat.{_≤_}
 use native.Mathlib.Omega.{arith}

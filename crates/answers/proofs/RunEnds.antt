@@ -1,5 +1,4 @@
 -- Where the sections begin: how the runs of one mark, and the arrays with their elements, go on and end.
--- Assumes nothing.
 use mathlib.Core.Path.{_≡_, refl}
 use mathlib.Core.Bool.{Bool, true, false}
 use mathlib.Core.Logic.{_⊎_, ⊎-elim}

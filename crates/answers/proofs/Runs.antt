@@ -1,5 +1,4 @@
 -- A section of records with one mark: what `runEnd` finds, said without it, and that this determines it.
--- Assumes nothing.
 use mathlib.Core.Path.{_≡_, refl}
 use Prim.Native.Nat.{ℕ, zero, suc, _+_, _≤_, _<_}
 use native.Mathlib.Omega.{arith}

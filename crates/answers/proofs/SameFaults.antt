@@ -1,5 +1,4 @@
 -- Whether a VR, SL or AR record has a fault depends on its bytes and its number alone, and what it declares on its bytes.
--- Assumes nothing.
 use mathlib.Core.Path.{_≡_}
 use Prim.Native.Nat.{ℕ}
 use mathlib.Core.List.{List}

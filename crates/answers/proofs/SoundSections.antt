@@ -1,5 +1,4 @@
 -- What a table without a fault among its declarations keeps to: how many of each there are, and their kinds.
--- Assumes nothing.
 use mathlib.Core.Path.{_≡_, refl, sym, ap, _∙_}
 use mathlib.Core.Bool.{Bool, true, false, _&&_}
 use mathlib.Core.List.{List, _∷_}

@@ -1,7 +1,6 @@
 -- Demand 3 on bytes: for every table that is translated, every reading ρ of the rules, every reading ρ′ under which the new table is evaluated and
 -- every assignment within the domains, the new table passes the check, takes the same assignment, meets no number beyond the limit, and its
 -- i-th constraint is true exactly where the i-th constraint of the table is true under ρ, and false elsewhere.
--- Assumes nothing.
 use mathlib.Core.Path.{_≡_, ap, _∙_}
 use Prim.Native.Nat.{ℕ, _<_}
 use native.Mathlib.Omega.{arith}

@@ -1,5 +1,4 @@
 -- Tables that are translated: none of the refusals of document 01 applies, and what follows from that.
--- Assumes nothing.
 use mathlib.Core.Path.{_≡_}
 use Prim.Native.Nat.{ℕ, _+_, _*_, _≤_, _<_}
 use mathlib.Core.Bool.{Bool, true, false, cond, _&&_}

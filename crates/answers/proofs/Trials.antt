@@ -1,5 +1,4 @@
 -- P1 to P9 of document 01, on bytes: rows of one table, and one claim about all of them. And P4's translation under choice 3, with its text.
--- Assumes nothing.
 use mathlib.Core.Path.{_≡_, refl}
 use Prim.Native.Nat.{ℕ}
 use mathlib.Core.Bool.{false}

@@ -1,5 +1,4 @@
 -- What each public call gives for every input: number, record, steps, "all are 1", length, and all lent bytes after the call.
--- Assumes nothing.
 use Prim.Native.Nat.{ℕ, _+_, _-_, _*_}
 use mathlib.Core.Bool.{Bool, true, false, cond, _&&_}
 use mathlib.Core.List.{List, [], _∷_, _++_, map}

@@ -1,5 +1,4 @@
 -- The check: for every byte string the number and the record of its refusal, or none.
--- Assumes nothing.
 use Prim.Native.Nat.{ℕ, zero, suc, _+_, _%_}
 use mathlib.Core.Bool.{Bool, true, false, cond, not, _&&_, _||_}
 use mathlib.Core.List.{List, [], _∷_}
@@ -131,8 +130,8 @@ module _ (bs : List ℕ) where
       (orElse (unless 4 (eqb (kindAt bs p) 0 || names (variableCount bs) (xAt bs p)))
       (unless 5 (eqb (kindAt bs p) 0 || sameSort (variableSort (xAt bs p)) t))))
 
-  -- A field of a node: 3 where its number is not allowed, 4 where it names nothing, 5 where that has the wrong type. n is the node's
-  -- own number: "An operand node has a smaller number than its user."
+  -- A field of a node names something, in node number n: "An operand node has a smaller number than its user." (Which numbers a field
+  -- may hold at all is `fieldAllowed`.)
   unfoldable pub fieldNames : ℕ → Field → ℤ → Bool
   fieldNames n unused z = true
   fieldNames n anyNumber z = true
@@ -142,6 +141,7 @@ module _ (bs : List ℕ) where
   fieldNames n (arrayNumber t) z = names (length (arrayRecords bs)) z
   fieldNames n (nodeNumber t) z = names n z
 
+  -- and what it names has the field's type
   unfoldable pub fieldTyped : Field → ℤ → Bool
   fieldTyped unused z = true
   fieldTyped anyNumber z = true

@@ -1,6 +1,5 @@
 -- "Sections come in this order, each but the first may be empty": where each begins, and what a table declares.
 -- Total on every byte string; what it says of a table that the check refuses is never used.
--- Assumes nothing.
 use Prim.Native.Nat.{ℕ, zero, suc, _+_, _-_}
 use mathlib.Core.Bool.{true, false, cond}
 use mathlib.Core.List.{List, [], _∷_, _++_, map}

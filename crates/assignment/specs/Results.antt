@@ -1,5 +1,5 @@
 -- Document 01's number and record for what the test says of an assignment.
--- Assumes nothing.
+-- Internal: a contract behind the public ones; no public promise cites it.
 use mathlib.Core.Option.{Option, none}
 use Rattle.answers.specs.Check.{Refusal, refuse}
 use Rattle.assignment.specs.declared.Assigned.{Assigned}

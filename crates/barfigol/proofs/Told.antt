@@ -1,5 +1,4 @@
 -- An answer in numbers, with the lent bytes after the call.
--- Assumes nothing.
 use mathlib.Core.Path.{_≡_, ap, _∙_}
 use Prim.Native.Nat.{ℕ}
 use mathlib.Core.List.{List}

@@ -1,5 +1,4 @@
 -- What C gets back, as document 01's answer.
--- Assumes nothing.
 use Prim.Native.Nat.{ℕ}
 use mathlib.Core.List.{List}
 use Rattle.answers.specs.Answers as Answers

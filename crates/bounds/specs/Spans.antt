@@ -1,5 +1,5 @@
 -- Intervals as the code holds them.
--- Assumes nothing.
+-- Internal: a contract behind the public ones; no public promise cites it.
 use Prim.Native.Nat.{ℕ, _≤_}
 use lib.IntN.{pos, negℤ, _*ℤ_, natAbs}
 use Rattle.numbers.specs.Limits.{limit}

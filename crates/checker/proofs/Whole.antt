@@ -1,5 +1,4 @@
 -- The whole check: what an allowed length tells, and how the sections' faults make the answer.
--- Assumes nothing.
 use mathlib.Core.Path.{_≡_, refl, sym, ap, _∙_}
 use mathlib.Core.Bool.{Bool, true, false, cond, _&&_}
 use mathlib.Core.List.{List}

@@ -1,5 +1,5 @@
 -- The faults of a table's records, section by section: the check without its test of the length.
--- Assumes nothing.
+-- Internal: a contract behind the public ones; no public promise cites it.
 use Prim.Native.Nat.{ℕ, _+_}
 use mathlib.Core.List.{List}
 use mathlib.Core.Option.{Option, orElse}

@@ -1,5 +1,4 @@
 -- What the code's verdicts of a table say: whether all that is met is within the limit, and then the bytes and whether all are 1.
--- Assumes nothing.
 use mathlib.Core.Path.{_≡_, refl, _∙_}
 use Prim.Native.Nat.{ℕ, _-_, _≤_}
 use native.Mathlib.Omega.{arith}

@@ -1,5 +1,4 @@
 -- What the walk over the arrays keeps: the arrays passed have no fault.
--- Assumes nothing.
 use mathlib.Core.Path.{_≡_, sym, _∙_, ap}
 use mathlib.Core.Bool.{Bool, true, false}
 use mathlib.Core.List.{List}

@@ -1,5 +1,4 @@
 -- The tests of the code, on the bits of the fields, are those of document 01.
--- Assumes nothing.
 use mathlib.Core.Path.{_≡_, refl}
 use mathlib.Core.Bool.{Bool, true, false, _&&_}
 use mathlib.Core.List.{List}

@@ -1,5 +1,5 @@
 -- What the check of the elements needs to know of the variables.
--- Assumes nothing.
+-- Internal: a contract behind the public ones; no public promise cites it.
 use mathlib.Core.Path.{_≡_}
 use mathlib.Core.List.{List}
 use Prim.Native.Nat.{ℕ, _+_, _%_, _≤_, _<_}

@@ -1,5 +1,4 @@
 -- The page's proofs: demands 1, 2 and 3, and that each promise allows one answer.
--- Assumes nothing.
 use mathlib.Core.Path.{_≡_, refl, sym, ap, _∙_}
 use Prim.Native.Nat.{ℕ}
 use mathlib.Core.Bool.{false}

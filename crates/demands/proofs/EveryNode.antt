@@ -1,6 +1,5 @@
 -- Every node of a table: where each has a value within the limit at every setting that fits, a walk over each meets no number beyond the limit;
 -- and a node needs a setting of its own free slots only.
--- Assumes nothing.
 use mathlib.Core.Path.{_≡_, refl}
 use Prim.Native.Nat.{ℕ}
 use mathlib.Core.Bool.{Bool, true, false, cond, _&&_}

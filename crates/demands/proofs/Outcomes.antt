@@ -1,5 +1,4 @@
 -- The outcome of the first fault in an order: what follows for the answer and the lent bytes.
--- Assumes nothing.
 use mathlib.Core.Path.{_≡_, refl, sym, ap, _∙_}
 use Prim.Native.Nat.{ℕ, _≤_}
 use native.Mathlib.Omega.{arith}

@@ -1,5 +1,4 @@
 -- Demand 3 for the rules' table: it is total and has the same solutions.
--- Assumes nothing.
 use mathlib.Core.Path.{_≡_}
 use Prim.Native.Nat.{ℕ}
 use mathlib.Core.List.{List}

@@ -1,5 +1,4 @@
 -- Useless versions, each shut out: no result of such a version meets the promise, or demand 3, at P4 or at a table of two constraints.
--- Assumes nothing.
 use mathlib.Core.Path.{_≡_, refl, sym, ap, subst, _∙_}
 use Prim.Native.Nat.{ℕ, zero, suc, _<_}
 use native.Mathlib.Nat.{not-suc-le-zero, le-of-suc-le-suc}

@@ -1,5 +1,4 @@
 -- The bytes that a call writes: which verdict stands where, when all are 1, and what is left as it was.
--- Assumes nothing.
 use mathlib.Core.Path.{_≡_, refl, sym, _∙_}
 use Prim.Native.Nat.{ℕ, zero, suc, _<_}
 use native.Mathlib.Nat.{not-suc-le-zero, le-of-suc-le-suc}

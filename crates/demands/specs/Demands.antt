@@ -2,7 +2,6 @@
 -- statement about every result that the promise allows. The proofs are in proofs/Demands.antt; that useless versions are shut out is in
 -- proofs/Useless.antt; that the functions of the code keep these promises and ask nothing is in the crate `promises`. What the statements cite:
 -- language/specs (the readings, values, steps), rules/specs (intervals, the rules), answers/specs (the check, the three answers, the listing).
--- Assumes nothing.
 use mathlib.Core.Path.{_≡_}
 use Prim.Native.Nat.{ℕ, _≤_, _<_}
 use mathlib.Core.Bool.{true}

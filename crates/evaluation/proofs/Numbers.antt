@@ -1,5 +1,4 @@
 -- Number, record and totals tell an evaluation's answer.
--- Assumes nothing.
 use mathlib.Core.Path.{_≡_, refl}
 use Prim.Native.Nat.{ℕ}
 use mathlib.Core.Bool.{Bool, false}

@@ -1,5 +1,5 @@
 -- What an evaluation of a sound table refuses before the walk, and what it gives after it.
--- Assumes nothing.
+-- Internal: a contract behind the public ones; no public promise cites it.
 use mathlib.Core.Path.{_≡_}
 use Prim.Native.Nat.{ℕ}
 use mathlib.Core.List.{List}

@@ -1,5 +1,4 @@
 -- Document 01's number, record, steps, "all are 1" and length for each case of the code's `Evaluation`.
--- Assumes nothing.
 use Prim.Native.Nat.{ℕ}
 use mathlib.Core.List.{List}
 use Rattle.answers.specs.Answers.{Answer, Outcome, refused, done}

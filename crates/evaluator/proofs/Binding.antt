@@ -1,5 +1,4 @@
 -- Walks over a slot's values: the value that is put, one value more, and all of them.
--- Assumes nothing.
 use mathlib.Core.Path.{_≡_, refl, sym, fun-ext}
 use Prim.Native.Nat.{ℕ, suc, _<_}
 use mathlib.Core.Bool.{Bool, true, false, not, _&&_}

@@ -1,5 +1,4 @@
 -- What the walk over a node gives, from its decoded case; and the operands of a case have smaller numbers.
--- Assumes nothing.
 use mathlib.Core.Path.{_≡_, refl, ap, _∙_}
 use Prim.Native.Nat.{ℕ, _<_}
 use mathlib.Core.Bool.{true, false}

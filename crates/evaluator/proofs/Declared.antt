@@ -1,5 +1,4 @@
 -- What the array of places and the padded table declare: slots, arrays and elements, each where it is declared and past the end.
--- Assumes nothing.
 use mathlib.Core.Path.{_≡_, refl, ap, _∙_}
 use Prim.Native.Nat.{ℕ, zero, suc, _+_, _≤_, _<_}
 use native.Mathlib.Omega.{arith}

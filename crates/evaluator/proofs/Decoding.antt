@@ -1,5 +1,4 @@
 -- The kinds that a decoded node lists, and that every other kind reads as 0, or as false.
--- Assumes nothing.
 use mathlib.Core.Path.{_≡_, refl, sym, ap, subst, _∙_}
 use Prim.Native.Nat.{ℕ, zero, suc}
 use mathlib.Core.Bool.{Bool, false, not, _||_}

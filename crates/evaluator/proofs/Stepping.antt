@@ -1,5 +1,4 @@
 -- One step of the walk: from a node's decoded case and what its operands gave to what the node gives.
--- Assumes nothing.
 use mathlib.Core.Path.{_≡_, sym, ap, subst, _∙_}
 use Prim.Native.Nat.{ℕ, _+_, _*_, _<_}
 use native.Mathlib.Omega.{arith}

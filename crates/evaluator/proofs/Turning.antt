@@ -1,5 +1,4 @@
 -- One turn of a walk over a slot's values: the slot is declared, its value fits, and afterwards the slots' values are as they were.
--- Assumes nothing.
 use mathlib.Core.Path.{_≡_, sym, ap, subst, _∙_}
 use Prim.Native.Nat.{ℕ, _+_, _^_, _≤_, _<_}
 use native.Mathlib.Omega.{arith}

@@ -1,5 +1,4 @@
 -- What a walk over an expression gives, from what it gave over its operands; and over a node, from its decoded case.
--- Assumes nothing.
 use mathlib.Core.Path.{_≡_, refl, sym}
 use Prim.Native.Nat.{ℕ}
 use native.Mathlib.Omega.{arith}

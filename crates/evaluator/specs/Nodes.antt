@@ -1,5 +1,5 @@
 -- Node records decoded: the case of each row. A node of the other type reads as 0, or as false.
--- Assumes nothing.
+-- Internal: a contract behind the public ones; no public promise cites it.
 use Prim.Native.Nat.{ℕ}
 use mathlib.Core.Bool.{false}
 use mathlib.Core.List.{List}

@@ -1,7 +1,7 @@
 -- What a walk over a node of a table gives: the language's value and whether it stays within the limit, over what the table declares. The table stands, padded with 0,
 -- in a fixed array of bytes, and where its sections lie in an array of places: the record of each array, and behind them the first
 -- slot's record, how many slots and arrays there are, the first node's record, and how many nodes.
--- Assumes nothing.
+-- Internal: a contract behind the public ones; no public promise cites it.
 use Prim.Native.Nat.{ℕ, _+_, _-_, _≤_, _<_}
 use mathlib.Core.Bool.{true}
 use mathlib.Core.Path.{_≡_}

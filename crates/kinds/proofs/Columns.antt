@@ -1,5 +1,4 @@
 -- A column of the table of kinds at a row.
--- Assumes nothing.
 use mathlib.Core.Path.{_≡_, refl, ap, sym}
 use mathlib.Core.List.{map}
 use mathlib.Core.Option.{Option, none, some}

@@ -1,5 +1,5 @@
 -- The entries of the code's table of kinds, as numbers, from the table of kinds of document 01.
--- Assumes nothing.
+-- Internal: a contract behind the public ones; no public promise cites it.
 use Prim.Native.Nat.{ℕ, _+_, _*_}
 use mathlib.Core.Bool.{cond}
 use mathlib.Core.Option.{Option, none, some}

@@ -1,5 +1,4 @@
 -- Finite types: a test that passes in each case passes always, so that a table of truth values is one computed test.
--- Assumes nothing.
 use mathlib.Core.Path.{_≡_, refl, ap}
 use mathlib.Core.Bool.{Bool, true, false, not, _&&_, _||_, Bool·beq, true≢false, false≢true}
 use mathlib.Core.Option.{Option, none, some}

@@ -1,6 +1,5 @@
 -- An expression does not depend on slots that are not free in it: settings that agree on its free slots give it the same value, and the
 -- same answer to whether a walk stays within the limit.
--- Assumes nothing.
 use mathlib.Core.Path.{_≡_, refl, ap, ap₂, fun-ext}
 use Prim.Native.Nat.{ℕ}
 use mathlib.Core.Bool.{Bool, true, false, not, cond, _&&_, _||_}

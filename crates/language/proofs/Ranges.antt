@@ -1,5 +1,4 @@
 -- Ranges: an invariant goes through `over`, and the values of a slot are those of its range.
--- Assumes nothing.
 use Prim.Native.Nat.{ℕ, zero, suc, _<_}
 use native.Mathlib.Omega.{arith}
 use mathlib.Core.Bool.{Bool, true, _&&_}

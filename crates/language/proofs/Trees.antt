@@ -1,6 +1,5 @@
 -- Laws of a table's trees: how many there are, what one more row adds, that rows behind change nothing before them, and that each
 -- tree is its row filled from the table's own trees.
--- Assumes nothing.
 use mathlib.Core.Path.{_≡_, refl, sym, ap, _∙_}
 use Prim.Native.Nat.{ℕ, suc, _+_, _≤_, _<_}
 use native.Mathlib.Omega.{arith}

@@ -4,7 +4,6 @@
 --
 -- T, F and U are expressions: true, false, and the comparison 1 div 0 = 1, which is undefined under strict and Kleene and false under
 -- relational. So a row of the relational reading shows what an undefined operand makes of the operator there.
--- Assumes nothing.
 use mathlib.Core.Path.{_≡_, refl}
 use Prim.Native.Nat.{ℕ}
 use mathlib.Core.Bool.{Bool, true, false}

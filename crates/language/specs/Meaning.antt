@@ -1,6 +1,5 @@
 -- The value of an expression: document 000's semantics with the reading as a parameter, over the declarations, an assignment
 -- of the variables and a setting of the slots. And what it means that a walk stays within the limit (number 8).
--- Assumes nothing.
 use Prim.Native.Nat.{ℕ, suc}
 use mathlib.Core.Bool.{Bool, true, false, cond, _&&_}
 use mathlib.Core.List.{List, []}

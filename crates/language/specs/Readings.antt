@@ -1,7 +1,6 @@
 -- The three readings on values alone: what an operation makes of operands that may be undefined (`none`).
 -- "Each value is an integer, a truth value or undefined": an integer node's value is an `Option ℤ`, a Boolean node's an
 -- `Option Bool`. The reading is a parameter, and the readings part in two places only: `connective` and `atomic`.
--- Assumes nothing.
 use Prim.Native.Nat.{ℕ, zero, suc}
 use mathlib.Core.Bool.{Bool, true, false, cond, not, _&&_, _||_, Bool·beq}
 use mathlib.Core.Option.{Option, none, some, Option·map}

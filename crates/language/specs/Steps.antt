@@ -1,6 +1,5 @@
 -- Steps: "a leaf costs 1; other nodes 1 plus their operands' costs; a quantifier or sum 1 plus the number of slot values times the
 -- body's cost." Over the natural numbers; neither an assignment nor a reading changes it.
--- Assumes nothing.
 use Prim.Native.Nat.{ℕ, _+_, _*_}
 use Rattle.language.specs.Syntax.{IExp, constant, variable, slot, arith, divide, negate, boolToInt, lookup, sum, iref, BExp, truth, variableB, lookupB, connect, negation, compare, quantify, bref, Declarations}
 use Rattle.language.specs.Tables.{Tree, whole, bool}

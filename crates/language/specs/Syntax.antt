@@ -2,7 +2,6 @@
 -- as document 01 groups them, and the declarations that they stand over.
 --
 -- `R` is what a reference may be: a node number in a formula of the translation, nothing at all (⊥) in a tree.
--- Assumes nothing.
 use Prim.Native.Nat.{ℕ}
 use mathlib.Core.Bool.{Bool}
 use mathlib.Core.List.{List}

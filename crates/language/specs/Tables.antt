@@ -1,5 +1,4 @@
 -- A table's nodes as rows, each over node numbers, and the tree that each row stands for.
--- Assumes nothing.
 use Prim.Native.Nat.{ℕ}
 use mathlib.Core.Bool.{Bool, false, not, _&&_, _||_}
 use mathlib.Core.List.{List, [], _∷_, _++_}

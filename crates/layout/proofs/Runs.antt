@@ -1,5 +1,4 @@
 -- Records as the code reads them: one within the table, and the one behind an array.
--- Assumes nothing.
 use mathlib.Core.Path.{_≡_}
 use Prim.Native.Nat.{ℕ, _+_, _*_, _≤_, _<_}
 use native.Mathlib.Omega.{arith}

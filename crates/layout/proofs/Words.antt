@@ -1,5 +1,4 @@
 -- What 32 bits stand for as a signed number, by its highest bit.
--- Assumes nothing.
 use mathlib.Core.Path.{_≡_, ap}
 use Prim.Native.Nat.{ℕ, _+_, _-_, _*_, _≤_, _<_}
 use mathlib.Core.List.{List}

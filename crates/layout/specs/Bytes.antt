@@ -1,5 +1,5 @@
 -- A byte that was read.
--- Assumes nothing.
+-- Internal: a contract behind the public ones; no public promise cites it.
 use mathlib.Core.Path.{_≡_}
 use Prim.Native.Nat.{ℕ, _<_}
 

@@ -1,5 +1,5 @@
 -- What the code relies on in a checked table: whole records, few arrays, elements that end within the table, and kinds that exist.
--- Assumes nothing.
+-- Internal: a contract behind the public ones; no public promise cites it.
 use mathlib.Core.Path.{_≡_}
 use Prim.Native.Nat.{ℕ, _+_, _%_, _≤_, _<_}
 use mathlib.Core.List.{List}

@@ -1,5 +1,5 @@
 -- Where the arrays of a table stand, as the code holds it.
--- Assumes nothing.
+-- Internal: a contract behind the public ones; no public promise cites it.
 use mathlib.Core.Path.{_≡_}
 use Prim.Native.Nat.{ℕ}
 use mathlib.Core.List.{List}

@@ -1,5 +1,5 @@
 -- Parts of a listing's lines, and how long a line can be.
--- Assumes nothing.
+-- Internal: a contract behind the public ones; no public promise cites it.
 use Prim.Native.Nat.{ℕ, _+_, _*_}
 use mathlib.Core.List.{List, [], _∷_, _++_}
 use Rattle.table.specs.Records.{recordSize, byteAt, kindAt, auxAt}

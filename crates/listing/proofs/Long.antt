@@ -1,5 +1,4 @@
 -- Input that is too long: "above 60,000". The program reads no more than it needs: the text for the first bytes is the text for all.
--- Assumes nothing.
 use mathlib.Core.Path.{_≡_, refl}
 use Prim.Native.Nat.{ℕ, zero, suc, _+_, _%_, _≤_, _<_}
 use native.Mathlib.Omega.{arith}

@@ -1,5 +1,4 @@
 -- What a translation gives tells the listing's text.
--- Assumes nothing.
 use mathlib.Core.Path.{_≡_, refl, ap, _∙_}
 use Prim.Native.Nat.{ℕ, zero, suc, _+_, _*_, _≤_, _<_}
 use native.Mathlib.Nat.{mul-div-right, mul-suc, add-zero}

@@ -1,5 +1,5 @@
 -- The text for what a translation gave, and how long a text can be.
--- Assumes nothing.
+-- Internal: no public promise cites it; the contract of `list` bounds its text by `longestText` besides.
 use Prim.Native.Nat.{ℕ, _/_}
 use mathlib.Core.Bool.{cond}
 use mathlib.Core.List.{List}

@@ -1,5 +1,4 @@
 -- A set of slots as a number, a bit for each slot.
--- Assumes nothing.
 use mathlib.Core.Path.{_≡_, refl, sym, ap, _∙_}
 use mathlib.Core.Bool.{Bool, true, false, cond, not, _&&_, _||_, Bool·beq}
 use mathlib.Core.Logic.{_⊎_, ⊎-elim}

@@ -1,5 +1,4 @@
 -- The facts before the first node: of the variables, slots and arrays of a table whose declarations are sound.
--- Assumes nothing.
 use mathlib.Core.Path.{_≡_, refl, _∙_}
 use mathlib.Core.List.{List, [], _∷_}
 use Prim.Native.Nat.{ℕ, zero, suc, _+_, _*_, _^_, _≤_, _<_}

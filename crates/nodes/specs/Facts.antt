@@ -1,6 +1,6 @@
 -- What the check of the nodes keeps of each thing that a node may name: one number, twice the set of its free slots, a bit for each slot,
 -- and 1 more where it yields integers.
--- Assumes nothing.
+-- Internal: a contract behind the public ones; no public promise cites it.
 use Prim.Native.Nat.{ℕ, zero, suc, _+_, _-_, _*_, _/_, _%_, _^_}
 use mathlib.Core.Bool.{Bool, true, false, cond, not, _&&_, _||_}
 use mathlib.Core.List.{List, [], _∷_}

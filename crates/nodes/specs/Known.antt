@@ -1,5 +1,5 @@
 -- What the facts say of a table's variables, slots, arrays and nodes, and what the functions that enter them need.
--- Assumes nothing.
+-- Internal: a contract behind the public ones; no public promise cites it.
 use mathlib.Core.Path.{_≡_}
 use mathlib.Core.Bool.{Bool}
 use mathlib.Core.List.{List}

@@ -1,5 +1,4 @@
 -- The test for the same number, magnitudes, and the bounds of quotient and remainder.
--- Assumes nothing.
 use mathlib.Core.Path.{_≡_, refl, ap}
 use Prim.Native.Nat.{ℕ, zero, suc, _-_, _≤_, _<_}
 use native.Mathlib.Omega.{arith}

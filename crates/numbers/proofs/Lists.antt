@@ -1,5 +1,4 @@
 -- Lists: an element under a function, a list of one value, stores one behind the other, and a list that is filled from its front on.
--- Assumes nothing.
 use mathlib.Core.Path.{_≡_, refl, ap, _∙_}
 use mathlib.Core.Logic.{⊎-elim}
 use Prim.Native.Nat.{ℕ, zero, suc, _+_, _≤_, _<_}

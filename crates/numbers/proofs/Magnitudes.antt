@@ -1,5 +1,4 @@
 -- Magnitudes of sums, differences and products, and that a number of small magnitude fits 64 bits.
--- Assumes nothing.
 use mathlib.Core.Path.{_≡_, refl}
 use Prim.Native.Nat.{suc, _+_, _*_, _≤_, _<_}
 use native.Mathlib.Omega.{arith}

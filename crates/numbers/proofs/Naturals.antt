@@ -1,5 +1,4 @@
 -- Natural numbers: one of two is below the other, or it is not.
--- Assumes nothing.
 use mathlib.Core.Path.{_≡_, refl}
 use mathlib.Core.Logic.{_⊎_, inl, inr}
 use mathlib.Core.Bool.{Bool, true, false}

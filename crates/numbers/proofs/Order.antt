@@ -1,5 +1,4 @@
 -- The order of whole numbers, the lesser and the greater of two, and how both go with sum, negation and product.
--- Assumes nothing.
 use mathlib.Core.Path.{_≡_, refl, ap, _∙_}
 use Prim.Native.Nat.{ℕ, suc}
 use native.Mathlib.Omega.{arith}

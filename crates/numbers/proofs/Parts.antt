@@ -1,6 +1,5 @@
 -- A whole number as up − dn, two natural numbers of which one is 0, and what sum, negation, order and magnitude are there: a linear
 -- fact about whole numbers is then one `omega`.
--- Assumes nothing.
 use mathlib.Core.Path.{_≡_, refl, ap}
 use Prim.Native.Nat.{ℕ, zero, suc, _+_, _-_, _*_, _≤_, _<_}
 use native.Mathlib.Omega.{arith}

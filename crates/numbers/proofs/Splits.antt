@@ -1,5 +1,4 @@
 -- A case split on the first numbers, one by one, and the rest.
--- Assumes nothing.
 use Prim.Native.Nat.{ℕ, zero, suc, _<_}
 use native.Mathlib.Omega.{arith}
 

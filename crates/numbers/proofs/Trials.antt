@@ -1,6 +1,5 @@
 -- Trials of the quotient and the remainder at all sign combinations, and of the limit at its ends. Each is one computed claim about a table
 -- of rows: a row worked out again is itself.
--- Assumes nothing.
 use mathlib.Core.Path.{_≡_, refl}
 use mathlib.Core.Bool.{Bool, true, false}
 use mathlib.Core.List.{List, [], _∷_, map}

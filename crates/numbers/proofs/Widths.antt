@@ -1,6 +1,5 @@
 -- Signed machine integers of 32 and 64 bits: what fits the narrow width fits the wide one, and so do sums, differences, products,
 -- quotients and remainders of narrow numbers. And the limit as the code tests it.
--- Assumes nothing.
 use mathlib.Core.Path.{_≡_, refl, sym, subst, _∙_}
 use Prim.Native.Nat.{ℕ, suc, _+_, _-_, _*_, _^_, _≤_, _<_}
 use native.Mathlib.Omega.{arith}

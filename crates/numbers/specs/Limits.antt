@@ -1,5 +1,4 @@
 -- Document 01's limits, each named once.
--- Assumes nothing.
 use Prim.Native.Nat.{ℕ}
 
 -- "length below 12, above 60,000"

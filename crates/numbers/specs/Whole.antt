@@ -1,6 +1,5 @@
 -- Whole numbers: the order as tests, least and greatest, document 01's quotient and remainder, and what is within its limit.
 -- The integers, their sum, difference and product, and the tests `leZ` and `ltZ` are the library's.
--- Assumes nothing.
 use mathlib.Core.Bool.{Bool, false, cond, _&&_}
 use lib.Dec.{eqb, leb}
 use lib.IntN.{ℤ, pos, negsuc, _+ℤ_, natAbs}

@@ -1,5 +1,4 @@
 -- Levels of truth values: false below undefined below true. Kleene's and is the lesser level, his or the greater.
--- Assumes nothing.
 use mathlib.Core.Path.{_≡_, refl, sym, _∙_}
 use Prim.Native.Nat.{ℕ, _≤_, _<_}
 use native.Mathlib.Omega.{arith}

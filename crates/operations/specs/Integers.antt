@@ -1,5 +1,5 @@
 -- Operations on what the walk met, each by the language's own operation on values.
--- Assumes nothing.
+-- Internal: a contract behind the public ones; no public promise cites it.
 use mathlib.Core.Bool.{Bool, true, false, _&&_}
 use mathlib.Core.Option.{Option, none, some, Option·map}
 use lib.IntN.{ℤ, pos, negsuc, negℤ}

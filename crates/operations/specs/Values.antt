@@ -1,6 +1,6 @@
 -- What a walk gives back, over the language's values: an integer node's value is an `Option ℤ`, a Boolean node's an `Option Bool`.
 -- Past the limit no value is handed on: number 8 refuses, whatever it would be.
--- Assumes nothing.
+-- Internal: a contract behind the public ones; no public promise cites it.
 use mathlib.Core.Bool.{Bool, true, false, _&&_}
 use mathlib.Core.Option.{Option, none, some}
 use lib.IntN.{ℤ}

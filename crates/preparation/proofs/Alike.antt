@@ -1,5 +1,4 @@
 -- The records of a table stand unchanged in its padded bytes, and so does what they declare.
--- Assumes nothing.
 use mathlib.Core.Path.{_≡_}
 use Prim.Native.Nat.{ℕ, suc, _+_, _-_, _*_, _≤_, _<_}
 use native.Mathlib.Omega.{arith}

@@ -1,5 +1,4 @@
 -- "An operand node has a smaller number than its user."
--- Assumes nothing.
 use mathlib.Core.Path.{_≡_}
 use Prim.Native.Nat.{ℕ}
 use mathlib.Core.List.{List}

@@ -1,5 +1,4 @@
 -- A table that has passed, made ready, is laid out as the walk relies on, and declares what it declared.
--- Assumes nothing.
 use mathlib.Core.Path.{_≡_, refl, ap, fun-ext, _∙_}
 use Prim.Native.Nat.{ℕ, zero, suc, _+_, _-_, _≤_, _<_}
 use native.Mathlib.Omega.{arith}

@@ -1,5 +1,4 @@
 -- What is stored from the front of a list on: a whole table, and the places of its sections.
--- Assumes nothing.
 use mathlib.Core.Path.{_≡_, sym, ap, ap₂, _∙_}
 use mathlib.Core.Logic.{⊎-elim}
 use mathlib.Core.Bool.{cond}

@@ -1,5 +1,5 @@
 -- A table made ready for the walk: its bytes in an array of fixed length, and where its sections lie in an array of places.
--- Assumes nothing.
+-- Internal: a contract behind the public ones; no public promise cites it.
 use mathlib.Core.Path.{_≡_}
 use Prim.Native.Nat.{ℕ, _-_, _<_}
 use mathlib.Core.List.{List, _++_}

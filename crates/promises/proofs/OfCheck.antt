@@ -1,7 +1,6 @@
 -- The function `check`: it asks nothing and keeps its contract, which is the page's promise; so demand 1 holds of it, and its result is the only
 -- one. `κs` are the lifetimes of a call, `args` the table that it is given, `after` the same at the end, and `Learnt` is what the contract says
 -- of them.
--- Assumes nothing.
 use mathlib.Core.Path.{_≡_, refl, sym, ap, _∙_}
 use Prim.Native.Nat.{ℕ}
 use mathlib.Core.Bool.{cond}

@@ -1,7 +1,6 @@
 -- The function `evaluate`: it asks nothing and keeps its contract, which is the page's promise; so demands 1 and 2 hold of its result and of the
 -- bytes that it was lent, and these are the only ones. `κs` are the lifetimes of a call, `args` the choice, the table, the assignment, the budget
 -- and the list for the verdicts that it is given, `after` the same at the end, and `Learnt` is what the contract says of them.
--- Assumes nothing.
 use mathlib.Core.Path.{_≡_, refl, sym, ap, _∙_}
 use Prim.Native.Nat.{ℕ, _<_}
 use native.Mathlib.Omega.{arith}

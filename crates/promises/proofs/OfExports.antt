@@ -1,7 +1,6 @@
 -- The exported functions: each asks nothing and keeps its contract, which is the page's promise, so that the demands hold of what it gives, and its
 -- struct and the bytes that it was lent are the only ones. `κs` are the lifetimes of a call, `args` what it is given, `after` the same at the end, and
 -- `Learnt` is what the contract says of them.
--- Assumes nothing.
 use mathlib.Core.Path.{_≡_, sym, ap, _∙_}
 use Prim.Native.Nat.{ℕ}
 use mathlib.Core.List.{List}

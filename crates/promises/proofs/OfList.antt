@@ -1,7 +1,6 @@
 -- The function `list`: it asks nothing and keeps its contract, which is the page's promise; so its result and the text's bytes are the only ones.
 -- `κs` are the lifetimes of a call, `args` the input and the buffer for the text that it is given, `after` the same at the end, and `Learnt` is
 -- what the contract says of them.
--- Assumes nothing.
 use mathlib.Core.Path.{_≡_}
 use Prim.Native.Nat.{ℕ}
 use mathlib.Core.List.{List}

@@ -1,7 +1,6 @@
 -- The function `translate`: it asks nothing and keeps its contract, which is the page's promise; so demands 1, 2 and 3 hold of its result and
 -- of its own output bytes, and these are the only ones. `κs` are the lifetimes of a call, `args` the choice, the table and the buffer that it is
 -- given, `after` the same at the end, and `Learnt` is what the contract says of them.
--- Assumes nothing.
 use mathlib.Core.Path.{_≡_, refl, sym, ap, _∙_}
 use Prim.Native.Nat.{ℕ, zero, suc, _<_}
 use native.Mathlib.Omega.{arith}

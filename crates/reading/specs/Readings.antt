@@ -1,5 +1,5 @@
 -- The readings and the choice as the code holds them.
--- Assumes nothing.
+-- Internal: a contract behind the public ones; no public promise cites it.
 use mathlib.Core.Option.{Option, none, some}
 use Rattle.language.specs.Readings as Language
 use Rattle.reading.specs.declared.Reading.{Reading}

@@ -1,5 +1,4 @@
 -- Adding rows to a table: the rows added fit behind those before, and with what is asked for beside it, a table of total trees stays one.
--- Assumes nothing.
 use mathlib.Core.Path.{_≡_}
 use mathlib.Core.List.{List, [], _∷_, _++_, append-nil, append-assoc}
 use lib.Seq.{append-snoc}

@@ -1,5 +1,4 @@
 -- What is shown of trees: the claims that the lemmas of the rules establish and that the theorem about tables puts together.
--- Assumes nothing.
 use mathlib.Core.Path.{_≡_}
 use mathlib.Core.Bool.{Bool}
 use mathlib.Core.Option.{some}

@@ -1,5 +1,4 @@
 -- The companions of a tree: the rules of document 01 followed down to the leaves, with the operands' companions in place of references.
--- Assumes nothing.
 use Prim.Native.Nat.{ℕ}
 use mathlib.Core.Bool.{true}
 use Rattle.language.specs.Syntax.{forall, IExp, constant, variable, slot, arith, divide, negate, boolToInt, lookup, sum, iref, BExp, truth, variableB, lookupB, connect, negation, compare, quantify, bref, Declarations}

@@ -1,6 +1,5 @@
 -- The rules of the connectives: P and N of a connective say what its value is. Over a formula's operands only their values count, so
 -- each rule is a table of truth values, computed whole.
--- Assumes nothing.
 use mathlib.Core.Path.{_≡_, refl, ap, _∙_}
 use mathlib.Core.Bool.{Bool, true, false, _&&_}
 use mathlib.Core.Option.{Option, none, some}

@@ -1,6 +1,5 @@
 -- What a formula stands for, computed: each reference is replaced by the tree that it names. So for every formula whose names are right,
 -- the tree at the root of what is written is the formula so filled, the rows written fit, and the root has the formula's type.
--- Assumes nothing.
 use Prim.Native.Nat.{ℕ}
 use mathlib.Core.List.{List}
 use lib.ListN.{length}

@@ -1,5 +1,4 @@
 -- Formulas that have values: what the operators of the rules make of operands with values, the same in every reading.
--- Assumes nothing.
 use mathlib.Core.Path.{_≡_, refl, ap, ap₂, _∙_}
 use Prim.Native.Nat.{ℕ}
 use mathlib.Core.Bool.{Bool, true, false, not, _||_}

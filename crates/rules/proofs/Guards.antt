@@ -1,5 +1,4 @@
 -- The rules with a guard: comparisons and lookups. P is guard and test, N is guard and no test; "relational N = ¬P".
--- Assumes nothing.
 use mathlib.Core.Path.{_≡_, refl, sym, ap, _∙_}
 use Prim.Native.Nat.{ℕ, _<_}
 use mathlib.Core.Bool.{Bool, not, _&&_}

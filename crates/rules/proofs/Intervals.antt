@@ -1,6 +1,5 @@
 -- "Bounds before translation": an operation on numbers of the operands' intervals stays in the node's interval, and a slot may be put to any
 -- value of its range.
--- Assumes nothing.
 use Prim.Native.Nat.{ℕ, suc, _≤_, _<_}
 use native.Mathlib.Omega.{arith}
 use lib.Dec.{T}

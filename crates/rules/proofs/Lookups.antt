@@ -1,6 +1,5 @@
 -- Lookups: an index is inside the array exactly where l ≤ i ≤ u, the clamped index always is, and the element found there lies in
 -- "the hull of its elements, variables by domain".
--- Assumes nothing.
 use mathlib.Core.Path.{_≡_, refl, sym, ap, _∙_}
 use Prim.Native.Nat.{ℕ, zero, suc, _+_, _≤_, _<_}
 use native.Mathlib.Omega.{arith}

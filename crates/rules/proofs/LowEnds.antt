@@ -1,5 +1,4 @@
 -- A setting that fits always exists: each slot at its low end. And so does an assignment: each variable at its low end.
--- Assumes nothing.
 use mathlib.Core.Path.{_≡_}
 use Prim.Native.Nat.{ℕ, _<_}
 use mathlib.Core.Bool.{cond}

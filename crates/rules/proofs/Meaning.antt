@@ -1,6 +1,5 @@
 -- The companions of a sound tree mean what they should, whatever the reading ρ of the rules and the reading ρ′ under which the companions
 -- are worked out: by induction on the tree, a rule at each node.
--- Assumes nothing.
 use lib.IntN.{pos, _+ℤ_}
 use Rattle.language.specs.Syntax.{IExp, constant, variable, slot, arith, divide, negate, boolToInt, BExp, lookup, sum, iref, truth, variableB, lookupB, connect, negation, compare, quantify, bref, Declarations}
 use Rattle.language.specs.Readings.{Reading}

@@ -1,5 +1,4 @@
 -- A table whose bounds hold stays within the limit: evaluating it never meets a number beyond the limit.
--- Assumes nothing.
 use mathlib.Core.Path.{_≡_, refl, subst}
 use mathlib.Core.Bool.{_&&_}
 use mathlib.Core.Option.{Option, none, some}

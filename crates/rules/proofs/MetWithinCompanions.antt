@@ -1,6 +1,5 @@
 -- Total trees stay within the limit: where every expression in a tree has a value within the limit, a walk over it meets no number beyond the limit.
 -- So evaluating a translation meets none.
--- Assumes nothing.
 use Prim.Native.Nat.{ℕ}
 use mathlib.Core.Bool.{_&&_}
 use mathlib.Core.List.{List}

@@ -1,6 +1,5 @@
 -- A node and its tree: which tree stands at a place of a table, that rows behind change nothing, that a tree has its row's type, and
 -- that in a well formed table each tree is its row filled from the table's own trees.
--- Assumes nothing.
 use mathlib.Core.Path.{_≡_, refl, sym, ap, _∙_}
 use Prim.Native.Nat.{ℕ, zero, suc, _<_}
 use native.Mathlib.Nat.{not-suc-le-zero, le-of-suc-le-suc}

@@ -1,6 +1,5 @@
 -- Operands that may be undefined: where an operation on them is defined, and that V, which always has a value, agrees with it there. For a
 -- quotient V has a corrected divisor, and stays in the interval.
--- Assumes nothing.
 use mathlib.Core.Path.{_≡_, refl}
 use Prim.Native.Nat.{_-_, _≤_}
 use native.Mathlib.Omega.{arith}

@@ -1,6 +1,5 @@
 -- The rules of the leaves and of the integer operations: V has a value of the node's interval, D says where the node is defined, and V is its
 -- value there.
--- Assumes nothing.
 use mathlib.Core.Path.{_≡_, refl, sym, ap, _∙_}
 use Prim.Native.Nat.{ℕ}
 use mathlib.Core.Bool.{Bool, true, false}

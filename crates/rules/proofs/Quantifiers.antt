@@ -1,6 +1,5 @@
 -- The rules of the quantifiers: P and N of a quantifier say what its value is. One side of a quantifier (true for exists, false for
 -- forall) is settled by one value of the body, the other is kept by all of them.
--- Assumes nothing.
 use mathlib.Core.Path.{_≡_, refl, ap, _∙_}
 use Prim.Native.Nat.{ℕ, _<_}
 use mathlib.Core.Bool.{Bool, true, false, not, _&&_, _||_, Bool·beq, and-false}

@@ -1,6 +1,5 @@
 -- The rules over node numbers stand for the companions of trees: a row's rule, over the places of its operands' companions, stands for the
 -- companions of the row's tree.
--- Assumes nothing.
 use Prim.Native.Nat.{ℕ, _<_}
 use mathlib.Core.List.{List}
 use lib.ListN.{length, getD}

@@ -1,5 +1,4 @@
 -- The trees of a well formed table whose intervals are within the limit are sound.
--- Assumes nothing.
 use Prim.Native.Nat.{ℕ}
 use mathlib.Core.List.{List, [], _∷_, _++_}
 use lib.Dec.{T}

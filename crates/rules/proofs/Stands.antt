@@ -1,6 +1,5 @@
 -- What a formula over node numbers stands for: the tree that has, in place of each reference, the tree of the node referred to. Each
 -- right-hand side of document 01's rules, over formulas, stands for the same right-hand side over their trees.
--- Assumes nothing.
 use Prim.Native.Nat.{ℕ}
 use mathlib.Core.Bool.{Bool}
 use mathlib.Core.List.{List}

@@ -1,5 +1,4 @@
 -- The rule of the sum: "V = sum of Va, D = forall of Da."
--- Assumes nothing.
 use mathlib.Core.Path.{_≡_, refl, ap₂}
 use Prim.Native.Nat.{ℕ, suc, _<_}
 use mathlib.Core.Option.{Option, some}

@@ -1,5 +1,4 @@
 -- Total formulas: an operator of total formulas is total.
--- Assumes nothing.
 use mathlib.Core.Path.{_≡_, refl}
 use Prim.Native.Nat.{ℕ}
 use mathlib.Core.Bool.{Bool, true, false, not}

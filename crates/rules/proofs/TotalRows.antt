@@ -1,6 +1,5 @@
 -- Demand 3 over tables: the translation of a well formed table within its bounds meets the demand. And evaluating such a table never meets a
 -- number beyond the limit.
--- Assumes nothing.
 use Prim.Native.Nat.{ℕ}
 use mathlib.Core.List.{List}
 use Rattle.language.specs.Syntax.{boolean, integer, Declarations}

@@ -1,6 +1,5 @@
 -- The companions of a sound tree are total, with every expression below: each has a value under every reading and at every setting that
 -- fits, an integer within the limit.
--- Assumes nothing.
 use Prim.Native.Nat.{ℕ, _<_}
 use mathlib.Core.Bool.{true}
 use lib.Dec.{T}

@@ -1,6 +1,5 @@
 -- The translation keeps track of its table, row by row: at the places kept for a node stand the companions of its tree, the rows written
 -- fit, and where the parts of the companions are total, so is every tree written.
--- Assumes nothing.
 use mathlib.Core.Path.{_≡_, refl}
 use Prim.Native.Nat.{ℕ, _<_}
 use native.Mathlib.Decide.{decLt}

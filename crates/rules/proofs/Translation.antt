@@ -1,6 +1,5 @@
 -- What the translation of a well formed table is: both companions of each node are nodes of the new table and their trees are the companions
 -- of the node's tree; the new table is well formed; and it is total where the companions are.
--- Assumes nothing.
 use mathlib.Core.Path.{_≡_, ap}
 use Prim.Native.Nat.{ℕ}
 use mathlib.Core.List.{List}

@@ -1,6 +1,5 @@
 -- Trials of the rules and the bounds, each one computed claim about a table of rows. The rows that a rule writes are document 01's
 -- formulas written out by hand: operands first, left to right, V before D, P before N.
--- Assumes nothing.
 use mathlib.Core.Path.{_≡_, refl}
 use Prim.Native.Nat.{ℕ}
 use mathlib.Core.Bool.{true, false}

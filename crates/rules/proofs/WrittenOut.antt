@@ -1,5 +1,4 @@
 -- Writing a formula out: after the rows that it adds, the tree at its root is the tree that the formula stands for.
--- Assumes nothing.
 use mathlib.Core.Path.{_≡_, refl}
 use Prim.Native.Nat.{ℕ, _+_}
 use mathlib.Core.List.{List, [], _++_, append-assoc}

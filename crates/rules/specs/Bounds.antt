@@ -1,5 +1,4 @@
 -- "Bounds before translation: each integer node has an interval."
--- Assumes nothing.
 use Prim.Native.Nat.{ℕ, _-_, max}
 use mathlib.Core.Bool.{Bool, true, _&&_}
 use mathlib.Core.List.{List, [], _∷_}

@@ -1,6 +1,5 @@
 -- The right-hand sides of document 01's rules, in its letters: Va and Da are an integer operand's companions, Pa and Na a Boolean
 -- operand's. What `R` is stays open: node numbers where a table is written, nothing where trees are compared.
--- Assumes nothing.
 use Prim.Native.Nat.{ℕ}
 use lib.IntN.{ℤ, pos}
 use Rattle.language.specs.Syntax.{plus, minimum, maximum, Division, Connective, conj, disj, implies, iff, equal, unequal, atMost, Quantifier, exists, forall, IExp, constant, arith, divide, boolToInt, BExp, connect, negation, compare, quantify}

@@ -1,5 +1,4 @@
 -- The rules of translation, node by node.
--- Assumes nothing.
 use Prim.Native.Nat.{ℕ}
 use mathlib.Core.Bool.{true}
 use lib.IntN.{ℤ, pos, _+ℤ_, predℤ}

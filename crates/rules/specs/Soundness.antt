@@ -1,6 +1,5 @@
 -- What demand 3 takes for granted of a table, and of an assignment and a setting of the slots. The check gives the first:
 -- declarations within the limits, "an operand node has a smaller number than its user" and the type that its user asks for.
--- Assumes nothing.
 use mathlib.Core.Path.{_≡_}
 use Prim.Native.Nat.{ℕ, _≤_, _<_}
 use mathlib.Core.Bool.{true}

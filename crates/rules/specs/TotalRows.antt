@@ -1,6 +1,5 @@
 -- Demand 3 over decoded rows: what is shown of the translation of a well formed table within its bounds, under a chosen reading ρ, at every
 -- reading ρ′ of the new table, every assignment within the domains and every setting that gives each slot a value of its interval.
--- Assumes nothing.
 use mathlib.Core.Path.{_≡_}
 use Prim.Native.Nat.{ℕ}
 use mathlib.Core.Bool.{Bool, true, false}

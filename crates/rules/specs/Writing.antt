@@ -1,6 +1,5 @@
 -- Writing out: "Nodes are handled in order. .. Formulas are written operands first, left to right, each operator and constant a new
 -- node at each occurrence; a companion is referred to and never written again. .. V before D, P before N."
--- Assumes nothing.
 use Prim.Native.Nat.{ℕ, _+_}
 use mathlib.Core.List.{List, [], _∷_, _++_}
 use lib.ListN.{length, getD}

@@ -1,5 +1,5 @@
 -- A section of a table that is not too long.
--- Assumes nothing.
+-- Internal: a contract behind the public ones; no public promise cites it.
 use Prim.Native.Nat.{ℕ, _+_, _≤_, _<_}
 use mathlib.Core.List.{List}
 use Rattle.table.specs.Records.{recordCount}

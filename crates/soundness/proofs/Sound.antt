@@ -1,5 +1,4 @@
 -- An answer of the check tells its fault: the public check's promise, read as what the calls behind it rely on.
--- Assumes nothing.
 use mathlib.Core.Path.{_≡_, refl, sym, ap, _∙_}
 use Prim.Native.Nat.{ℕ, _≤_}
 use native.Mathlib.Omega.{arith}

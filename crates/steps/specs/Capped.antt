@@ -1,5 +1,5 @@
 -- Steps as the code holds them: exact up to the largest budget of 32 bits, and one number for all beyond.
--- Assumes nothing.
+-- Internal: a contract behind the public ones; no public promise cites it.
 use Prim.Native.Nat.{ℕ}
 use mathlib.Core.Bool.{cond}
 use lib.Dec.{ltb}

@@ -1,5 +1,5 @@
 -- What the pass over the nodes keeps of the nodes before.
--- Assumes nothing.
+-- Internal: a contract behind the public ones; no public promise cites it.
 use mathlib.Core.Path.{_≡_}
 use Prim.Native.Nat.{ℕ, _≤_, _<_}
 use mathlib.Core.List.{List}

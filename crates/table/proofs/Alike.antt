@@ -1,5 +1,4 @@
 -- Records with the same bytes, in one byte string or two: their marks, kinds and numbers are the same.
--- Assumes nothing.
 use mathlib.Core.Path.{_≡_, sym, ap, _∙_}
 use Prim.Native.Nat.{ℕ, suc, _+_, _*_, _≤_, _<_}
 use native.Mathlib.Nat.{add-zero, add-assoc, mul-suc, mul-add}

@@ -1,5 +1,4 @@
 -- Marks of records: a marked record stands within the table, and no record has two marks.
--- Assumes nothing.
 use mathlib.Core.Path.{_≡_, sym, _∙_}
 use Prim.Native.Nat.{ℕ, _+_, _*_, _%_, _<_}
 use native.Mathlib.Nat.{div-add-mod, add-zero, lt-of-mul-lt-mul-left}

@@ -1,5 +1,4 @@
 -- Reading back what is written: a record's bytes, and records one behind the other.
--- Assumes nothing.
 use mathlib.Core.Path.{_≡_, refl, sym, _∙_}
 use Prim.Native.Nat.{ℕ, zero, suc, _+_, _*_, _<_}
 use native.Mathlib.Nat.{not-suc-le-zero, le-of-suc-le-suc, le-refl, mul-suc, mul-one, mul-zero, suc-add, zero-add}

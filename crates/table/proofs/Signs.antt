@@ -1,5 +1,4 @@
 -- The signed number that 32 bits stand for, by its sign, and as the machine has it.
--- Assumes nothing.
 use mathlib.Core.Path.{_≡_, refl, ap}
 use Prim.Native.Nat.{ℕ, zero, suc, _+_, _-_, _≤_, _<_}
 use native.Mathlib.Nat.{zero-add}

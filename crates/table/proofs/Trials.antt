@@ -1,5 +1,4 @@
 -- Trials of the record and of the table of kinds, each one computed claim about a table of rows.
--- Assumes nothing.
 use mathlib.Core.Path.{_≡_, refl}
 use Prim.Native.Nat.{ℕ}
 use mathlib.Core.Bool.{true, false}

@@ -1,5 +1,4 @@
 -- Words: a signed number of 32 bits is read back from the bytes that it is written as.
--- Assumes nothing.
 use mathlib.Core.Path.{_≡_, ap, _∙_}
 use Prim.Native.Nat.{ℕ, _+_, _*_, _-_, _/_, _%_, _<_}
 use native.Mathlib.Nat.{div-div-eq-div-mul}

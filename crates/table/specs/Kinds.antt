@@ -1,5 +1,4 @@
 -- "One small table of kinds says which operands each kind takes and what it yields."
--- Assumes nothing.
 use Prim.Native.Nat.{ℕ}
 use mathlib.Core.Bool.{false}
 use mathlib.Core.List.{List, [], _∷_}

@@ -1,5 +1,5 @@
 -- The mark that each case of the code's `Mark` stands for.
--- Assumes nothing.
+-- Internal: a contract behind the public ones; no public promise cites it.
 use Rattle.table.specs.Records as Records
 use Rattle.table.specs.declared.Mark.{Mark}
 use Rattle.table.specs.declared.Mark.the-variants.{Head, Variable, Slot, Array, Element, Node, Constraint}

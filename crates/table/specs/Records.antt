@@ -1,6 +1,5 @@
 -- The table on disk: "Records of 12 bytes: a two-byte ASCII mark, kind (1 byte), aux (1 byte, always 0), x and y (signed 32 bits, low
 -- byte first)." A byte string is a list of numbers below 256. Past its end every byte reads as 0, so a record there has no mark.
--- Assumes nothing.
 use Prim.Native.Nat.{ℕ, _+_, _-_, _*_, _/_, _%_}
 use mathlib.Core.Bool.{Bool, cond, _&&_}
 use mathlib.Core.List.{List, [], _∷_, _++_}

@@ -1,5 +1,5 @@
 -- 32 bits in the order of the signed numbers that they stand for.
--- Assumes nothing.
+-- Internal: a contract behind the public ones; no public promise cites it.
 use Prim.Native.Nat.{ℕ, _+_, _-_}
 use mathlib.Core.Bool.{cond}
 use lib.Dec.{ltb}

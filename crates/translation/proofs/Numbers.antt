@@ -1,5 +1,4 @@
 -- Number, record and length tell a translation's answer.
--- Assumes nothing.
 use mathlib.Core.Path.{_≡_, refl, sym, ap}
 use Prim.Native.Nat.{ℕ}
 use mathlib.Core.Bool.{false}

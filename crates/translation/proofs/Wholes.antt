@@ -1,5 +1,4 @@
 -- The new table's parts, written one behind the other, are the new table.
--- Assumes nothing.
 use mathlib.Core.Path.{_≡_, sym, ap, _∙_}
 use Prim.Native.Nat.{ℕ, _+_, _-_, _*_, _≤_}
 use native.Mathlib.Nat.{zero-add}

@@ -1,5 +1,5 @@
 -- What stands before the nodes of the new table: "VR, SL, AR and EL are copied".
--- Assumes nothing.
+-- Internal: a contract behind the public ones; no public promise cites it.
 use Prim.Native.Nat.{ℕ, _-_, _*_}
 use mathlib.Core.List.{List, _++_}
 use lib.IntN.{pos}

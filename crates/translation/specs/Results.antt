@@ -1,5 +1,4 @@
 -- Document 01's number, record and length for each case of the code's `Translation`.
--- Assumes nothing.
 use Prim.Native.Nat.{ℕ}
 use mathlib.Core.Bool.{false}
 use mathlib.Core.List.{List}

@@ -1,4 +1,5 @@
 -- A translation under a reading, whatever number chose it.
+-- Internal: a contract behind the public ones; no public promise cites it.
 use mathlib.Core.Path.{_≡_}
 use Prim.Native.Nat.{ℕ}
 use mathlib.Core.List.{List}

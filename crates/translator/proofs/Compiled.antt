@@ -1,5 +1,4 @@
 -- The rows of each kind under each reading are its rule, written out over references: one computed test.
--- Assumes nothing.
 use mathlib.Core.Path.{_≡_, refl}
 use Prim.Native.Nat.{ℕ, _+_, _*_}
 use mathlib.Core.Bool.{cond}

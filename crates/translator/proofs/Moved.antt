@@ -1,6 +1,5 @@
 -- A formula over references, written from number 16 on, is the same formula over the node's words, written from number n on, with
 -- every reference in its place.
--- Assumes nothing.
 use mathlib.Core.Path.{_≡_, refl, sym, ap, _∙_}
 use Prim.Native.Nat.{ℕ, _+_}
 use native.Mathlib.Omega.{arith as numbers}

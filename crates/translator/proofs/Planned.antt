@@ -1,5 +1,4 @@
 -- The plan of a kind under a reading, as it is read from the reading's plans.
--- Assumes nothing.
 use mathlib.Core.Path.{_≡_, _∙_}
 use Prim.Native.Nat.{ℕ}
 use mathlib.Core.List.{List}

@@ -1,5 +1,4 @@
 -- What a node's rule writes is its plan's rows, with the node's words in place of the references.
--- Assumes nothing.
 use mathlib.Core.Path.{_≡_, refl, ap, _∙_}
 use Prim.Native.Nat.{ℕ, _+_, _<_}
 use native.Mathlib.Omega.{arith}

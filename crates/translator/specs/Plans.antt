@@ -1,6 +1,6 @@
 -- The rules as rows, and where each kind's rows stand under each reading, as the code holds them. `Compiled` of proofs/ holds them to the
 -- rules themselves.
--- Assumes nothing.
+-- Internal: a contract behind the public ones; no public promise cites it.
 use Prim.Native.Nat.{ℕ, _+_, _*_, _/_, _%_}
 use mathlib.Core.List.{List, [], _∷_}
 use lib.ListN.{getD}

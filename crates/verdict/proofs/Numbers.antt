@@ -1,5 +1,4 @@
 -- Number and record tell a check's answer.
--- Assumes nothing.
 use mathlib.Core.Path.{_≡_, refl, sym}
 use Prim.Native.Nat.{ℕ}
 use mathlib.Core.Bool.{false}

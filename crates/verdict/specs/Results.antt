@@ -1,5 +1,4 @@
 -- Document 01's number and record for each case of the code's `Check`.
--- Assumes nothing.
 use mathlib.Core.Bool.{Bool, true, false}
 use mathlib.Core.Option.{Option, none, some, Option·map}
 use Prim.Native.Nat.{ℕ}

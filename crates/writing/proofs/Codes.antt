@@ -1,5 +1,4 @@
 -- What an operand's code says of x, in 32 bits, and that it says what the kind says.
--- Assumes nothing.
 use mathlib.Core.Path.{_≡_, refl, sym}
 use Prim.Native.Nat.{ℕ, _<_}
 use mathlib.Core.Logic.{⊎-elim}

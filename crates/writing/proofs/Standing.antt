@@ -1,5 +1,4 @@
 -- What stands after the first n nodes: their records, the number of the next one, and the positions of both companions of each.
--- Assumes nothing.
 use mathlib.Core.Path.{_≡_, refl, sym, ap, _∙_}
 use Prim.Native.Nat.{ℕ, zero, suc, _+_, _-_, _*_, _≤_, _<_}
 use native.Mathlib.Omega.{arith}

@@ -1,5 +1,5 @@
 -- The constraints of the new table over the positions that are kept.
--- Assumes nothing.
+-- Internal: a contract behind the public ones; no public promise cites it.
 use Prim.Native.Nat.{ℕ}
 use mathlib.Core.List.{List, [], _∷_, _++_}
 use lib.ListN.{getD}

@@ -1,5 +1,5 @@
 -- The first and the last index of an array as the code holds them.
--- Assumes nothing.
+-- Internal: a contract behind the public ones; no public promise cites it.
 use mathlib.Core.Bool.{Bool, cond}
 use lib.IntN.{pos}
 use Rattle.language.specs.Syntax.{Array}

@@ -1,5 +1,5 @@
 -- What a node's words rely on: the record stands in the table, its kind exists, and an array that it looks up is declared.
--- Assumes nothing.
+-- Internal: a contract behind the public ones; no public promise cites it.
 use mathlib.Core.Path.{_≡_}
 use Prim.Native.Nat.{ℕ, _<_}
 use mathlib.Core.Bool.{true}

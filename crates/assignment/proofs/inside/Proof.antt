@@ -1,5 +1,4 @@
 -- `assignment::inside` meets its contract.
--- Assumes nothing.
 use Rattle.numbers.proofs.Widths.{widened}
 use Rattle.table.specs.Records.{xAt, yAt}
 use Rattle.layout.proofs.Runs.{within-table}

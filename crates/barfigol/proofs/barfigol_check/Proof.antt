@@ -1,5 +1,4 @@
 -- `barfigol::barfigol_check` meets its contract.
--- Assumes nothing.
 use mathlib.Core.Path.{_∙_}
 use Rattle.barfigol.proofs.barfigol_check.Statement.{statement}
 use Rattle.barfigol.proofs.barfigol_check.Tie as tie

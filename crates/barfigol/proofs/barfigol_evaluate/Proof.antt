@@ -1,5 +1,4 @@
 -- `barfigol::barfigol_evaluate` meets its contract.
--- Assumes nothing.
 use Rattle.barfigol.proofs.Told.{told}
 use Rattle.barfigol.proofs.barfigol_evaluate.Statement.{statement}
 use Rattle.barfigol.proofs.barfigol_evaluate.Tie as tie

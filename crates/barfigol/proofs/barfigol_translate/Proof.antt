@@ -1,5 +1,4 @@
 -- `barfigol::barfigol_translate` meets its contract.
--- Assumes nothing.
 use Rattle.barfigol.proofs.Told.{told}
 use Rattle.barfigol.proofs.barfigol_translate.Statement.{statement}
 use Rattle.barfigol.proofs.barfigol_translate.Tie as tie

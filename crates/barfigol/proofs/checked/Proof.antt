@@ -1,5 +1,4 @@
 -- `barfigol::checked` meets its contract: the answer from its parts.
--- Assumes nothing.
 use Rattle.verdict.proofs.Numbers.{answer-from}
 use Rattle.barfigol.proofs.checked.Statement.{statement}
 use Rattle.barfigol.proofs.checked.Tie as tie

@@ -1,5 +1,4 @@
 -- `barfigol::evaluated` meets its contract: the answer from its parts.
--- Assumes nothing.
 use Rattle.evaluation.proofs.Numbers.{answer-from}
 use Rattle.barfigol.proofs.evaluated.Statement.{statement}
 use Rattle.barfigol.proofs.evaluated.Tie as tie

@@ -1,5 +1,4 @@
 -- `barfigol::translated` meets its contract: the answer from its parts.
--- Assumes nothing.
 use Rattle.translation.proofs.Numbers.{answer-from}
 use Rattle.barfigol.proofs.translated.Statement.{statement}
 use Rattle.barfigol.proofs.translated.Tie as tie

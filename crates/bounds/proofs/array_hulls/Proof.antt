@@ -1,5 +1,4 @@
 -- `bounds::array_hulls` meets its contract.
--- Assumes nothing.
 use Rattle.bounds.proofs.Declared.{array-elements, behind-inside, hulls-of}
 use mir.Facts.{toZ-ofZ}
 use Rattle.layout.proofs.Order.{laid}

@@ -1,5 +1,4 @@
 -- `bounds::check_bounds` meets its contract.
--- Assumes nothing.
 use Rattle.layout.proofs.Order.{laid}
 use Rattle.answers.specs.Check.{refuse}
 use Rattle.answers.specs.Sections.{nodeCount}

@@ -1,5 +1,4 @@
 -- `bounds::domain` meets its contract.
--- Assumes nothing.
 use Rattle.bounds.proofs.Declared.{domain-of, no-domain}
 use Rattle.bounds.proofs.Spans.{to-cong}
 use Rattle.layout.proofs.Order.{laid}

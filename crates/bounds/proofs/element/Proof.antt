@@ -1,5 +1,4 @@
 -- `bounds::element` meets its contract.
--- Assumes nothing.
 use Rattle.bounds.proofs.Declared.{constant-element, variable-element}
 use Rattle.layout.proofs.Runs.{within-table}
 use Rattle.answers.specs.Sections.{declarations}

@@ -1,5 +1,4 @@
 -- `bounds::elements` meets its contract.
--- Assumes nothing.
 use Rattle.bounds.proofs.Declared.{elements-none, elements-one, elements-more}
 use Rattle.bounds.proofs.Spans.{hull-cong}
 use Rattle.bounds.specs.Spans.{span}

@@ -1,5 +1,4 @@
 -- `bounds::kept` meets its contract.
--- Assumes nothing.
 use lib.ListN.{List·getD-eq-default}
 use lib.IntN.{pos}
 use native.Mathlib.Omega.{arith}

@@ -1,5 +1,4 @@
 -- `bounds::node_ends` meets its contract.
--- Assumes nothing.
 use mathlib.Core.List.{List}
 use lib.ListN.{getD}
 use lib.IntN.{pos, natAbs}

@@ -1,5 +1,4 @@
 -- `bounds::operand` meets its contract.
--- Assumes nothing.
 use Rattle.bounds.proofs.Spans.{to-cong}
 use mir.Facts.{toZ-ofZ}
 use mathlib.Core.Path.{_∙_}

@@ -1,5 +1,4 @@
 -- `bounds::slot_ends` meets its contract.
--- Assumes nothing.
 use Rattle.bounds.proofs.Declared.{slot-of, no-slot}
 use Rattle.bounds.proofs.Spans.{slot-cong}
 use Rattle.layout.proofs.Words.{xAt-natAbs-≤, yAt-natAbs-≤}

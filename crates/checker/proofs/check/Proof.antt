@@ -1,5 +1,4 @@
 -- `checker::check` meets its contract: it answers for every byte string what document 01 says.
--- Assumes nothing.
 use mathlib.Core.Path.{refl, sym, _∙_}
 use borrow.Author.Needs.{needs}
 use Rattle.verdict.specs.declared.Check.the-variants.{BadLength}

@@ -1,5 +1,4 @@
 -- `checker::check_records` meets its contract: the first section with a fault decides.
--- Assumes nothing.
 use mathlib.Core.Path.{sym, _∙_}
 use native.Mathlib.Omega.{arith}
 use borrow.Author.Needs.{needs}

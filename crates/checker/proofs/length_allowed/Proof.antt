@@ -1,5 +1,4 @@
 -- `checker::length_allowed` meets its contract.
--- Assumes nothing.
 use mathlib.Core.Path.{refl}
 use Rattle.table.specs.Records.{recordSize}
 use Rattle.answers.specs.Check.{lengthAllowed}

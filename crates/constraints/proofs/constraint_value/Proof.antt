@@ -1,5 +1,4 @@
 -- `constraints::constraint_value` meets its contract.
--- Assumes nothing.
 use mathlib.Core.Path.{ap, _∙_}
 use native.Mathlib.Omega.{arith}
 use Rattle.layout.proofs.Runs.{within-table}

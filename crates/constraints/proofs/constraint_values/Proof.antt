@@ -1,5 +1,4 @@
 -- `constraints::constraint_values` meets its contract.
--- Assumes nothing.
 use mathlib.Core.Path.{ap}
 use Prim.Native.Nat.{_+_, _-_, _≤_}
 use native.Mathlib.Omega.{arith}

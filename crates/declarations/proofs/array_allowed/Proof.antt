@@ -1,5 +1,4 @@
 -- `declarations::array_allowed` meets its contract.
--- Assumes nothing.
 use Rattle.declarations.proofs.Tests.{array-test}
 use borrow.Author.Needs.{needs}
 use Rattle.declarations.proofs.array_allowed.Statement.{statement}

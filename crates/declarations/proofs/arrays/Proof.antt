@@ -1,5 +1,4 @@
 -- `declarations::arrays` meets its contract: the arrays passed have no fault.
--- Assumes nothing.
 use mathlib.Core.Path.{sym, _∙_}
 use Prim.Native.Nat.{_-_}
 use native.Mathlib.Omega.{arith}

@@ -1,5 +1,4 @@
 -- `declarations::domain_allowed` meets its contract, for each type.
--- Assumes nothing.
 use native.Mathlib.Omega.{arith}
 use mathlib.Core.Path.{_≡_, _∙_}
 use Prim.Native.Nat.{ℕ}

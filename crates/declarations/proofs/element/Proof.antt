@@ -1,5 +1,4 @@
 -- `declarations::element` meets its contract: each way out of it is one of document 01's cases.
--- Assumes nothing.
 use mathlib.Core.Path.{sym, _∙_}
 use native.Mathlib.Omega.{arith}
 use borrow.Author.Tests.{not-true, not-false}

@@ -1,5 +1,4 @@
 -- `declarations::elements` meets its contract: no fault among the elements passed, so all of them are within the table.
--- Assumes nothing.
 use mathlib.Core.Path.{_≡_}
 use mathlib.Core.Option.{none}
 use Prim.Native.Nat.{ℕ, _+_, _-_, _≤_}

@@ -1,5 +1,4 @@
 -- `declarations::header` meets its contract.
--- Assumes nothing.
 use mathlib.Core.Path.{sym, _∙_, ap}
 use borrow.Author.Tests.{not-true, not-false}
 use Rattle.table.specs.Marks.{markOf}

@@ -1,5 +1,4 @@
 -- `declarations::slot_allowed` meets its contract.
--- Assumes nothing.
 use mathlib.Core.Path.{_≡_}
 use Prim.Native.Nat.{ℕ, _+_}
 use native.Mathlib.Omega.{arith}

@@ -1,5 +1,4 @@
 -- `declarations::variable_allowed` meets its contract.
--- Assumes nothing.
 use Rattle.declarations.proofs.Tests.{variable-test}
 use borrow.Author.Needs.{needs}
 use Rattle.declarations.proofs.variable_allowed.Statement.{statement}

@@ -1,5 +1,4 @@
 -- `declarations::variables` meets its contract: no fault among the records passed.
--- Assumes nothing.
 use mathlib.Core.Path.{_≡_, sym, _∙_}
 use mathlib.Core.Option.{none}
 use Prim.Native.Nat.{ℕ, _+_, _-_, _≤_}

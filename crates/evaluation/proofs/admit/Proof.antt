@@ -1,5 +1,4 @@
 -- `evaluation::admit` meets its contract.
--- Assumes nothing.
 use mathlib.Core.Path.{sym, ap, _∙_}
 use borrow.Author.Needs.{needs}
 use Rattle.layout.proofs.Checked.{checked}

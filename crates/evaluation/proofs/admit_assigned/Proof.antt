@@ -1,5 +1,4 @@
 -- `evaluation::admit_assigned` meets its contract.
--- Assumes nothing.
 use mathlib.Core.Path.{_∙_}
 use native.Mathlib.Omega.{arith}
 use Rattle.answers.specs.Sections.{constraintCount}

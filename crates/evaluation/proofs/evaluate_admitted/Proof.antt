@@ -1,5 +1,4 @@
 -- `evaluation::evaluate_admitted` meets its contract.
--- Assumes nothing.
 use mathlib.Core.Path.{refl}
 use native.Mathlib.Omega.{arith}
 use borrow.Author.Needs.{needs}

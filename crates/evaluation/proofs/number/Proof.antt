@@ -1,5 +1,4 @@
 -- `evaluation::number` meets its contract, case by case.
--- Assumes nothing.
 use Rattle.answers.specs.Answers.{refused, done}
 use Rattle.evaluation.specs.Results.{answerOf}
 use borrow.Author.Needs.{needs}

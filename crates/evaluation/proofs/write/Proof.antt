@@ -1,5 +1,4 @@
 -- `evaluation::write` meets its contract.
--- Assumes nothing.
 use Prim.Native.Nat.{_-_, _≤_}
 use native.Mathlib.Omega.{arith}
 use Rattle.evaluation.proofs.Copied.{Copied, copied-none, copied-more, copied-long, copied-all}

@@ -1,5 +1,4 @@
 -- `kinds::row` meets its contract.
--- Assumes nothing.
 use borrow.Author.Tests.{lt-ltb, le-ltb}
 use Rattle.kinds.specs.Entries.{rowOf}
 use Rattle.kinds.proofs.row.Statement.{statement}

@@ -1,5 +1,4 @@
 -- `layout::array_records` meets its contract.
--- Assumes nothing.
 use Rattle.layout.proofs.Runs.{behind-at, within-table}
 use Rattle.layout.proofs.Words.{yAt-natAbs-≤}
 use Rattle.sections.proofs.Bounds.{arrays-place, array-count}

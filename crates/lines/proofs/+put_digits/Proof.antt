@@ -1,5 +1,4 @@
 -- The proof of the cycle of calls {put_digits}: the number of places falls.
--- Assumes nothing.
 use Prim.Native.Nat.{_+_, _/_, _%_, _-_}
 use native.Mathlib.Omega.{arith}
 use mathlib.Core.List.{[], _∷_}

@@ -1,5 +1,4 @@
 -- `lines::put_decimal` meets its contract.
--- Assumes nothing.
 use Rattle.answers.specs.Listing.{decimal}
 use borrow.Author.Needs.{needs}
 use Rattle.lines.proofs.put_decimal.Statement.{statement}

@@ -1,5 +1,4 @@
 -- `lines::put_field` meets its contract: a space, then the number.
--- Assumes nothing.
 use Rattle.answers.specs.Listing.{space, decimal}
 use Rattle.lines.proofs.Placed.{put, put-++, ensured}
 use borrow.Author.Needs.{needs}

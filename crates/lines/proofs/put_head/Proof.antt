@@ -1,5 +1,4 @@
 -- `lines::put_head` meets its contract: two letters, then two numbers of a byte each.
--- Assumes nothing.
 use Prim.Native.Nat.{_+_, _*_}
 use native.Mathlib.Omega.{arith}
 use mathlib.Core.Path.{_∙_}

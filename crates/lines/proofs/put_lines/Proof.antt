@@ -1,5 +1,4 @@
 -- `lines::put_lines` meets its contract. The loop's invariant: the lines of the first k records stand in `text`, and `at` is behind them.
--- Assumes nothing.
 use Prim.Native.Nat.{_*_, _-_, _≤_}
 use native.Mathlib.Omega.{arith}
 use mathlib.Core.Path.{_≡_, refl, ap, _∙_}

@@ -1,5 +1,4 @@
 -- `lines::put_refusal` meets its contract.
--- Assumes nothing.
 use native.Mathlib.Omega.{arith}
 use mathlib.Core.List.{_++_}
 use Rattle.answers.specs.Listing.{space, newline, decimal}

@@ -1,5 +1,4 @@
 -- `lines::put_refused` meets its contract.
--- Assumes nothing.
 use native.Mathlib.Omega.{arith}
 use lib.ListN.{length-set}
 use borrow.Author.Needs.{needs}

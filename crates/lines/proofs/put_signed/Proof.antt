@@ -1,5 +1,4 @@
 -- `lines::put_signed` meets its contract, on either side of the sign bit.
--- Assumes nothing.
 use Prim.Native.Nat.{_+_, _-_}
 use mathlib.Core.List.{[], _∷_}
 use Rattle.answers.specs.Listing.{decimal}

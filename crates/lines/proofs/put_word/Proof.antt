@@ -1,5 +1,4 @@
 -- `lines::put_word` meets its contract: a space, then the number.
--- Assumes nothing.
 use Rattle.table.specs.Records.{signed}
 use Rattle.answers.specs.Listing.{space, signedDecimal}
 use Rattle.lines.proofs.Placed.{put, put-++, ensured}

@@ -1,5 +1,4 @@
 -- `list::main` meets its contract: the text lies within its buffer.
--- Assumes nothing.
 use native.Mathlib.Omega.{arith}
 use mathlib.Core.Path.{sym, ap}
 use lib.ListN.{length, length-append}

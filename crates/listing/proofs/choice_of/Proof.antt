@@ -1,5 +1,4 @@
 -- `listing::choice_of` meets its contract.
--- Assumes nothing.
 use native.Mathlib.Omega.{arith}
 use mathlib.Core.Path.{sym}
 use Rattle.listing.proofs.Pieces.{choice-digit, choice-low, choice-high}

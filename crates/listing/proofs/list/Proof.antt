@@ -1,5 +1,4 @@
 -- `listing::list` meets its contract: with no input the choice is 0; else the table stands behind the first byte.
--- Assumes nothing.
 use native.Mathlib.Omega.{arith}
 use mathlib.Core.Path.{sym}
 use Rattle.listing.proofs.Pieces.{no-input, some-input, text-first}

@@ -1,5 +1,4 @@
 -- `listing::list_table` meets its contract: the text for what the translation into 60,000 bytes gives.
--- Assumes nothing.
 use Prim.Native.Nat.{ℕ}
 use native.Mathlib.Omega.{arith}
 use mathlib.Core.Path.{_≡_, ap, _∙_}

@@ -1,5 +1,4 @@
 -- `listing::put_text` meets its contract.
--- Assumes nothing.
 use native.Mathlib.Omega.{arith}
 use mathlib.Core.Path.{sym, ap, _∙_}
 use lib.ListN.{length}

@@ -1,5 +1,4 @@
 -- `nodes::constraint` meets its contract: each way out of it is one of document 01's cases.
--- Assumes nothing.
 use mathlib.Core.Path.{refl}
 use borrow.Author.Tests.{not-true, not-false}
 use Rattle.verdict.proofs.Soundness.{refused-at, sound-at}

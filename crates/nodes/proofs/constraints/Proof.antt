@@ -1,5 +1,4 @@
 -- `nodes::constraints` meets its contract: no fault among the constraints passed.
--- Assumes nothing.
 use mathlib.Core.Path.{_≡_}
 use mathlib.Core.Option.{none}
 use Prim.Native.Nat.{ℕ, _+_, _-_, _*_, _^_, _%_, _≤_}

@@ -1,5 +1,4 @@
 -- `nodes::enter_arrays` meets its contract: the facts of the arrays passed stand at their places.
--- Assumes nothing.
 use borrow.Author.Needs.{needs}
 use mathlib.Core.Path.{_≡_, sym, _∙_, ap}
 use Prim.Native.Nat.{ℕ, _-_, _≤_}

@@ -1,5 +1,4 @@
 -- `nodes::enter_slots` meets its contract: the facts of the slots passed stand at their places.
--- Assumes nothing.
 use mathlib.Core.Path.{_≡_, ap}
 use Prim.Native.Nat.{ℕ, _+_, _-_, _*_, _^_, _≤_}
 use native.Mathlib.Omega.{arith}

@@ -1,5 +1,4 @@
 -- `nodes::enter_variables` meets its contract: the facts of the variables passed stand at their places.
--- Assumes nothing.
 use mathlib.Core.Path.{_≡_}
 use Prim.Native.Nat.{ℕ, _+_, _-_, _≤_}
 use native.Mathlib.Omega.{arith}

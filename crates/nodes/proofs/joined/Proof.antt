@@ -1,5 +1,4 @@
 -- `nodes::joined` meets its contract: the sets of slots stay below bit 31.
--- Assumes nothing.
 use mathlib.Core.Path.{_≡_}
 use mathlib.Core.Logic.{⊎-elim}
 use mathlib.Core.Bool.{cond}

@@ -1,5 +1,4 @@
 -- `nodes::look` meets its contract: the place is within the facts.
--- Assumes nothing.
 use mathlib.Core.Path.{_≡_}
 use mathlib.Core.Bool.{cond}
 use mathlib.Core.List.{List}

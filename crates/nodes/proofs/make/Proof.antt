@@ -1,5 +1,4 @@
 -- `nodes::make` meets its contract, case by case.
--- Assumes nothing.
 use mathlib.Core.Path.{_≡_}
 use Prim.Native.Nat.{ℕ}
 use borrow.Author.Needs.{needs}

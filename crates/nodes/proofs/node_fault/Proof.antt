@@ -1,5 +1,4 @@
 -- `nodes::node_fault` meets its contract.
--- Assumes nothing.
 use borrow.Author.Needs.{needs}
 use Rattle.nodes.proofs.node_fault.Statement.{statement}
 use Rattle.nodes.proofs.node_fault.Tie as tie

@@ -1,5 +1,4 @@
 -- `nodes::nodes` meets its contract: no fault among the nodes passed, and their facts stand at their places.
--- Assumes nothing.
 use borrow.Author.Needs.{needs}
 use denote.Ref.{now}
 use mathlib.Core.Option.{Option·some-ne-none}

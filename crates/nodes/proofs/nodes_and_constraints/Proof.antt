@@ -1,5 +1,4 @@
 -- `nodes::nodes_and_constraints` meets its contract: the facts of the declarations are those before the first node.
--- Assumes nothing.
 use mathlib.Core.Path.{refl, sym, _∙_, ap}
 use native.Mathlib.Omega.{arith}
 use borrow.Author.Needs.{needs}

@@ -1,5 +1,4 @@
 -- `reading::reading_of` meets its contract.
--- Assumes nothing.
 use mathlib.Core.Path.{_≡_}
 use mathlib.Core.Logic.{_≢_}
 use mathlib.Core.Option.{none}

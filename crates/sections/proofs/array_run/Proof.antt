@@ -1,5 +1,4 @@
 -- `sections::array_run` meets its contract: the walk goes from array to array until it stops.
--- Assumes nothing.
 use mathlib.Core.Path.{_≡_, sym, _∙_, ap}
 use mathlib.Core.List.{List}
 use Prim.Native.Nat.{ℕ, _+_, _*_, _-_}

@@ -1,5 +1,4 @@
 -- `sections::find_places` meets its contract: each section begins where the one before it ends.
--- Assumes nothing.
 use mathlib.Core.Path.{_≡_, _∙_, ap}
 use mathlib.Core.List.{List}
 use Prim.Native.Nat.{ℕ}

@@ -1,5 +1,4 @@
 -- `sections::run_end` meets its contract: the walk stands in the run until it stops.
--- Assumes nothing.
 use mathlib.Core.Path.{sym, _∙_}
 use Prim.Native.Nat.{_-_}
 use native.Mathlib.Omega.{arith}

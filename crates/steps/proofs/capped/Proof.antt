@@ -1,5 +1,4 @@
 -- `steps::capped` meets its contract.
--- Assumes nothing.
 use mathlib.Core.Path.{sym}
 use native.Mathlib.Omega.{arith}
 use Rattle.steps.proofs.Caps.{capped-low, capped-high}

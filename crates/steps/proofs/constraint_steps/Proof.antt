@@ -1,5 +1,4 @@
 -- `steps::constraint_steps` meets its contract.
--- Assumes nothing.
 use borrow.Author.Needs.{needs}
 use mathlib.Core.Path.{_≡_, ap, _∙_}
 use lib.ListN.{getD}

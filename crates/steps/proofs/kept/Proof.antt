@@ -1,5 +1,4 @@
 -- `steps::kept` meets its contract.
--- Assumes nothing.
 use lib.ListN.{List·getD-eq-default}
 use native.Mathlib.Omega.{arith}
 use mathlib.Core.Path.{sym}

@@ -1,5 +1,4 @@
 -- `steps::values_between` meets its contract.
--- Assumes nothing.
 use Rattle.steps.proofs.Slots.{width-fits, width-natural, one-more-fits, some-values, no-values}
 use Rattle.steps.proofs.values_between.Statement.{statement}
 use Rattle.steps.proofs.values_between.Tie as tie

@@ -1,5 +1,4 @@
 -- `table::aux_at` meets its contract: the record is within the table.
--- Assumes nothing.
 use native.Mathlib.Omega.{arith}
 use mathlib.Core.Path.{refl}
 use Rattle.table.specs.Records.{recordSize, recordCount, byteAt, auxAt}

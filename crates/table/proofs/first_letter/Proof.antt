@@ -1,5 +1,4 @@
 -- `table::first_letter` meets its contract: case by case.
--- Assumes nothing.
 use Rattle.table.specs.Records.{firstLetter}
 use Rattle.table.specs.Marks.{markOf}
 use borrow.Author.Needs.{needs}

@@ -1,5 +1,4 @@
 -- `table::lifted` meets its contract, on either side of the sign bit.
--- Assumes nothing.
 use mathlib.Core.Path.{sym}
 use Rattle.table.proofs.Signs.{lift-low, lift-high}
 use borrow.Author.Needs.{needs}

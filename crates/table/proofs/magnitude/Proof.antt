@@ -1,5 +1,4 @@
 -- `table::magnitude` meets its contract, on either side of the sign bit.
--- Assumes nothing.
 use mathlib.Core.Path.{_≡_}
 use Prim.Native.Nat.{ℕ, _-_, _≤_, _<_}
 use native.Mathlib.Omega.{arith}

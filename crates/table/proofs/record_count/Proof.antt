@@ -1,5 +1,4 @@
 -- `table::record_count` meets its contract.
--- Assumes nothing.
 use mathlib.Core.Path.{refl}
 use Rattle.table.specs.Records.{recordSize, recordCount}
 use Rattle.table.proofs.record_count.Statement.{statement}

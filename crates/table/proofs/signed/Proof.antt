@@ -1,5 +1,4 @@
 -- `table::signed` meets its contract, on either side of the sign bit.
--- Assumes nothing.
 use mathlib.Core.Path.{_≡_, sym, ap, _∙_}
 use Prim.Native.Nat.{ℕ, _-_, _≤_}
 use native.Mathlib.Omega.{arith}

@@ -1,5 +1,4 @@
 -- `table::x_bits` meets its contract: the record is within the table.
--- Assumes nothing.
 use native.Mathlib.Omega.{arith}
 use Rattle.table.specs.Records.{recordSize, recordCount, byteAt, wordAt}
 use borrow.Author.Needs.{needs}

@@ -1,5 +1,4 @@
 -- `translation::has_room` meets its contract: 12 times the records is within a size where they are within a twelfth of it.
--- Assumes nothing.
 use Rattle.numbers.specs.Limits.{mostBytes}
 use Rattle.table.specs.Records.{recordSize}
 use Rattle.translation.proofs.Outcomes.{within-twelfth}

@@ -1,5 +1,4 @@
 -- `translation::length` meets its contract, case by case.
--- Assumes nothing.
 use Rattle.translation.proofs.Numbers.{check-writes-nothing}
 use Rattle.answers.specs.Answers.{refused, done}
 use Rattle.translation.specs.Results.{answerOf}

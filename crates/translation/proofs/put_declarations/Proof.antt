@@ -1,5 +1,4 @@
 -- `translation::put_declarations` meets its contract.
--- Assumes nothing.
 use mathlib.Core.Path.{_∙_}
 use native.Mathlib.Omega.{arith}
 use Rattle.table.specs.Records.{recordSize, recordCount}

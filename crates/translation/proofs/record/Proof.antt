@@ -1,5 +1,4 @@
 -- `translation::record` meets its contract, case by case.
--- Assumes nothing.
 use Rattle.answers.specs.Answers.{refused, done}
 use Rattle.translation.specs.Results.{answerOf}
 use borrow.Author.Needs.{needs}

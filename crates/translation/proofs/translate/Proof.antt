@@ -1,5 +1,4 @@
 -- `translation::translate` meets its contract: it answers for every input what document 01 says.
--- Assumes nothing.
 use mathlib.Core.Path.{sym, ap, _∙_}
 use borrow.Author.Needs.{needs}
 use Rattle.reading.specs.Readings.{meantBy}

@@ -1,5 +1,4 @@
 -- `translation::translate_sound` meets its contract: 8, then 9, then the new table.
--- Assumes nothing.
 use mathlib.Core.Path.{sym, _∙_}
 use native.Mathlib.Omega.{arith}
 use borrow.Author.Tests.{not-true, not-false}

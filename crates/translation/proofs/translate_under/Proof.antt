@@ -1,5 +1,4 @@
 -- `translation::translate_under` meets its contract.
--- Assumes nothing.
 use Rattle.reading.specs.Readings.{meant}
 use Rattle.soundness.proofs.Sound.{sound→checked}
 use Rattle.translation.proofs.Outcomes.{refused-check}

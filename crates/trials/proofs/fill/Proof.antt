@@ -1,5 +1,4 @@
 -- `trials::fill` meets its contract: both records lie within the slice.
--- Assumes nothing.
 use native.Mathlib.Omega.{arith}
 use Rattle.table.specs.Records.{recordSize}
 use borrow.Author.Needs.{needs}

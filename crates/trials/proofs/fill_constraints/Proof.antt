@@ -1,5 +1,4 @@
 -- `trials::fill_constraints` meets its contract: each record lies within the slice.
--- Assumes nothing.
 use Prim.Native.Nat.{_-_, _≤_}
 use native.Mathlib.Omega.{arith}
 use mathlib.Core.Path.{_≡_}

@@ -1,5 +1,4 @@
 -- `trials::put` meets its contract.
--- Assumes nothing.
 use native.Mathlib.Omega.{arith}
 use Rattle.table.specs.Records.{recordSize}
 use borrow.Author.Needs.{needs}

@@ -1,5 +1,4 @@
 -- `verdict::record` meets its contract, case by case.
--- Assumes nothing.
 use Rattle.answers.specs.Answers.{refused, done}
 use Rattle.verdict.specs.Results.{answerOf}
 use borrow.Author.Needs.{needs}

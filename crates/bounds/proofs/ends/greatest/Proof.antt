@@ -1,5 +1,4 @@
 -- `bounds::ends::greatest` meets its contract.
--- Assumes nothing.
 use Rattle.bounds.proofs.Spans.{greatest-yes, greatest-no}
 use Rattle.bounds.proofs.ends.greatest.Statement.{statement}
 use Rattle.bounds.proofs.ends.greatest.Tie as tie

@@ -1,5 +1,4 @@
 -- `bounds::ends::largest` meets its contract.
--- Assumes nothing.
 use Rattle.bounds.proofs.Spans.{largest-held}
 use Rattle.numbers.proofs.Magnitudes.{held-small, limit-small}
 use Rattle.bounds.proofs.ends.largest.Statement.{statement}

@@ -1,5 +1,4 @@
 -- `bounds::ends::least` meets its contract.
--- Assumes nothing.
 use Rattle.bounds.proofs.Spans.{least-yes, least-no}
 use Rattle.bounds.proofs.ends.least.Statement.{statement}
 use Rattle.bounds.proofs.ends.least.Tie as tie

@@ -1,5 +1,4 @@
 -- `bounds::ends::magnitude` meets its contract.
--- Assumes nothing.
 use Rattle.bounds.proofs.Spans.{negative-fits, magnitude-below, magnitude-above}
 use Rattle.bounds.proofs.ends.magnitude.Statement.{statement}
 use Rattle.bounds.proofs.ends.magnitude.Tie as tie

@@ -1,5 +1,4 @@
 -- `bounds::ends::negated` meets its contract.
--- Assumes nothing.
 use Rattle.bounds.proofs.Spans.{to-cong, negative-fits, negative-held}
 use Rattle.bounds.proofs.ends.negated.Statement.{statement}
 use Rattle.bounds.proofs.ends.negated.Tie as tie

@@ -1,5 +1,4 @@
 -- `bounds::ends::only` meets its contract.
--- Assumes nothing.
 use Rattle.bounds.proofs.Spans.{to-cong}
 use Rattle.rules.specs.Bounds.{only}
 use mir.Facts.{toZ-ofZ}

@@ -1,5 +1,4 @@
 -- `bounds::ends::quotients` meets its contract.
--- Assumes nothing.
 use Rattle.bounds.proofs.Spans.{magnitude-≤, opposite-fits, quotients-span}
 use Rattle.rules.specs.Bounds.{divideInterval}
 use Rattle.bounds.proofs.ends.quotients.Statement.{statement}

@@ -1,5 +1,4 @@
 -- `bounds::ends::remainders` meets its contract.
--- Assumes nothing.
 use Rattle.bounds.proofs.Spans.{magnitude-≤, none-left, one-less-fits, remainders-span}
 use Rattle.rules.specs.Bounds.{divideInterval}
 use Rattle.bounds.proofs.ends.remainders.Statement.{statement}

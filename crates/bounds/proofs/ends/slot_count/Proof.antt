@@ -1,5 +1,4 @@
 -- `bounds::ends::slot_count` meets its contract.
--- Assumes nothing.
 use Rattle.bounds.proofs.Spans.{difference-fits, one-more-fits, some-values, no-values}
 use Rattle.bounds.proofs.ends.slot_count.Statement.{statement}
 use Rattle.bounds.proofs.ends.slot_count.Tie as tie

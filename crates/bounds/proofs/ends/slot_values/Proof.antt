@@ -1,5 +1,4 @@
 -- `bounds::ends::slot_values` meets its contract.
--- Assumes nothing.
 use Rattle.bounds.proofs.Spans.{to-cong, held-both}
 use mir.Facts.{toZ-ofZ}
 use Rattle.numbers.specs.Whole as Whole

@@ -1,5 +1,4 @@
 -- `bounds::ends::summed` meets its contract.
--- Assumes nothing.
 use Rattle.bounds.proofs.Spans.{to-cong, repeats-fits, repeats-held}
 use Rattle.bounds.proofs.ends.summed.Statement.{statement}
 use Rattle.bounds.proofs.ends.summed.Tie as tie

@@ -1,5 +1,4 @@
 -- `bounds::ends::times` meets its contract.
--- Assumes nothing.
 use lib.IntN.{_*ℤ_}
 use Rattle.bounds.proofs.Spans.{hull-cong}
 use Rattle.rules.specs.Bounds.{arithInterval, products, hull, only}

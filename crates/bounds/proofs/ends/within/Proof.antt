@@ -1,5 +1,4 @@
 -- `bounds::ends::within` meets its contract.
--- Assumes nothing.
 use Rattle.bounds.proofs.Spans.{below-limit, not-below-limit}
 use mir.Facts.{toZ-ofZ}
 use Rattle.bounds.proofs.ends.within.Statement.{statement}

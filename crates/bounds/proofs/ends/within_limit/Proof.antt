@@ -1,5 +1,4 @@
 -- `bounds::ends::within_limit` meets its contract.
--- Assumes nothing.
 use Rattle.bounds.proofs.Spans.{both-yes, first-no}
 use Rattle.numbers.specs.Whole.{withinLimit}
 use mir.Facts.{toZ-ofZ}

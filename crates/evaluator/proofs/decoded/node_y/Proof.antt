@@ -1,5 +1,4 @@
 -- `evaluator::decoded::node_y` meets its contract.
--- Assumes nothing.
 use mathlib.Core.Path.{ap}
 use borrow.Author.Needs.{needs}
 use Rattle.evaluator.specs.Nodes.{node}

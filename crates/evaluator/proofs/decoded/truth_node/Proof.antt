@@ -1,5 +1,4 @@
 -- `evaluator::decoded::truth_node` meets its contract, by the kind.
--- Assumes nothing.
 use mathlib.Core.Path.{_≡_, refl, sym, ap, ap₂, _∙_}
 use Prim.Native.Nat.{ℕ, _+_}
 use mathlib.Core.Bool.{false}

@@ -1,5 +1,4 @@
 -- `evaluator::lookups::element_in` meets its contract, by where the index lies.
--- Assumes nothing.
 use borrow.Author.Needs.{sfits-of}
 use mathlib.Core.Path.{_≡_, ap, _∙_}
 use Prim.Native.Nat.{ℕ, suc, _+_, _≤_, _<_}

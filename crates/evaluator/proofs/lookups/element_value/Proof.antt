@@ -1,5 +1,4 @@
 -- `evaluator::lookups::element_value` meets its contract.
--- Assumes nothing.
 use borrow.Author.Needs.{needs, sfits-of}
 use mathlib.Core.Path.{_≡_, ap, _∙_}
 use Prim.Native.Nat.{ℕ}

@@ -1,5 +1,4 @@
 -- `evaluator::lookups::leaf_at` meets its contract, by the kind.
--- Assumes nothing.
 use borrow.Author.Needs.{needs, sfits-of}
 use mathlib.Core.Path.{_≡_, refl, sym, ap, _∙_}
 use Prim.Native.Nat.{ℕ, _+_}

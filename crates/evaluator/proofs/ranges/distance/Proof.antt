@@ -1,5 +1,4 @@
 -- `evaluator::ranges::distance` meets its contract.
--- Assumes nothing.
 use borrow.Author.Needs.{needs}
 use mathlib.Core.Path.{_≡_, ap}
 use mathlib.Core.Bool.{true}

@@ -1,5 +1,4 @@
 -- `evaluator::ranges::range_of` meets its contract.
--- Assumes nothing.
 use borrow.Author.Needs.{needs, sfits-of}
 use mathlib.Core.Path.{_≡_, sym, ap, _∙_}
 use Prim.Native.Nat.{ℕ, _+_}

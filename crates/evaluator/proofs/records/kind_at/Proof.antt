@@ -1,5 +1,4 @@
 -- `evaluator::records::kind_at` meets its contract.
--- Assumes nothing.
 use borrow.Author.Needs.{needs}
 use mathlib.Core.Path.{refl}
 use Rattle.table.specs.Records.{recordSize, byteAt, kindAt}

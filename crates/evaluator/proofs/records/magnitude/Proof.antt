@@ -1,5 +1,4 @@
 -- `evaluator::records::magnitude` meets its contract, by the sign.
--- Assumes nothing.
 use mathlib.Core.Path.{_≡_}
 use Prim.Native.Nat.{ℕ, _+_, _-_, _^_, _≤_, _<_}
 use native.Mathlib.Omega.{arith}

@@ -1,5 +1,4 @@
 -- The cycle of the walk meets its contracts: a node's number or truth value, an operand's, and those over a slot's values.
--- Assumes nothing.
 use borrow.Author.Needs.{needs, sfits-of}
 use mathlib.Core.Path.{_≡_, refl, sym, ap, subst, _∙_}
 use Prim.Native.Nat.{ℕ, _+_, _-_, _*_, _^_, _≤_, _<_}

@@ -1,5 +1,4 @@
 -- `evaluator::walk::empty` meets its contract, by the quantifier.
--- Assumes nothing.
 use mathlib.Core.Path.{_≡_, _∙_}
 use mathlib.Core.Bool.{true, false}
 use mathlib.Core.Option.{some}

@@ -1,5 +1,4 @@
 -- `evaluator::walk::joins` meets its contract, by the quantifier.
--- Assumes nothing.
 use mathlib.Core.Path.{_≡_}
 use borrow.Author.Needs.{needs}
 use Rattle.language.specs.Syntax as syntax

@@ -1,5 +1,4 @@
 -- `layout::fields::kind_at` meets its contract.
--- Assumes nothing.
 use native.Mathlib.Omega.{arith}
 use mathlib.Core.Path.{refl}
 use Rattle.table.specs.Records.{recordSize, kindAt, byteAt}

@@ -1,5 +1,4 @@
 -- `layout::fields::name_x` meets its contract.
--- Assumes nothing.
 use Rattle.table.specs.Records.{recordSize, xAt}
 use Rattle.table.specs.Records as Records
 use lib.IntN.{natAbs}

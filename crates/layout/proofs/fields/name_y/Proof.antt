@@ -1,5 +1,4 @@
 -- `layout::fields::name_y` meets its contract.
--- Assumes nothing.
 use Rattle.table.specs.Records.{recordSize, yAt}
 use Rattle.table.specs.Records as Records
 use lib.IntN.{natAbs}

@@ -1,5 +1,4 @@
 -- `layout::fields::named` meets its contract.
--- Assumes nothing.
 use native.Mathlib.Omega.{arith}
 use Rattle.table.proofs.Signs.{signed-low, signed-high}
 use borrow.Author.Needs.{needs}

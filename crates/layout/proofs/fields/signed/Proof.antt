@@ -1,5 +1,4 @@
 -- `layout::fields::signed` meets its contract.
--- Assumes nothing.
 use native.Mathlib.Omega.{arith}
 use mir.Syntax.{w64}
 use mir.Facts.{toZ-pos, toZ-ofZ}

@@ -1,5 +1,4 @@
 -- `layout::fields::word_at` meets its contract.
--- Assumes nothing.
 use native.Mathlib.Omega.{arith}
 use Rattle.table.specs.Records.{wordAt, byteAt}
 use borrow.Author.Needs.{needs}

@@ -1,5 +1,4 @@
 -- `layout::fields::y_at` meets its contract.
--- Assumes nothing.
 use mir.Facts.{toZ-ofZ}
 use Rattle.table.specs.Records.{recordSize, yAt}
 use Rattle.table.specs.Records as Records

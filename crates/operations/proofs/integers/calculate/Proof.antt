@@ -1,5 +1,4 @@
 -- `operations::integers::calculate` meets its contract, by its operands' case.
--- Assumes nothing.
 use mathlib.Core.Path.{_≡_, sym, ap, _∙_}
 use mathlib.Core.Bool.{true}
 use mathlib.Core.Option.{some}

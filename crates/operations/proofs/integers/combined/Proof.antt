@@ -1,5 +1,4 @@
 -- `operations::integers::combined` meets its contract, by the operation.
--- Assumes nothing.
 use mathlib.Core.Path.{_≡_}
 use mathlib.Core.Bool.{Bool, true, false}
 use lib.IntN.{ℤ, _+ℤ_, _-ℤ_, _*ℤ_}

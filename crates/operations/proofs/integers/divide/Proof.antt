@@ -1,5 +1,4 @@
 -- `operations::integers::divide` meets its contract, by its operands' case and the divisor.
--- Assumes nothing.
 use mathlib.Core.Path.{_≡_, sym, ap, _∙_}
 use mathlib.Core.Bool.{true, false}
 use mathlib.Core.Option.{some}

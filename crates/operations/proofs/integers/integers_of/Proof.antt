@@ -1,5 +1,4 @@
 -- `operations::integers::integers_of` meets its contract, by the two operands' cases.
--- Assumes nothing.
 use mathlib.Core.Path.{_≡_, ap, _∙_}
 use mathlib.Core.Logic.{⊎-elim}
 use lib.IntN.{ℤ}

@@ -1,5 +1,4 @@
 -- `operations::integers::negate` meets its contract, by its operand's case.
--- Assumes nothing.
 use mathlib.Core.Path.{_≡_, refl, ap, _∙_}
 use mathlib.Core.Option.{none, some, Option·map}
 use lib.IntN.{ℤ, pos, negℤ, _-ℤ_, +ℤ-idl}

@@ -1,5 +1,4 @@
 -- `operations::integers::number` meets its contract, by its operand's case.
--- Assumes nothing.
 use mathlib.Core.Path.{_≡_, ap, _∙_}
 use mathlib.Core.Bool.{Bool, true, false}
 use mathlib.Core.Option.{none, some, Option·map}

@@ -1,5 +1,4 @@
 -- `operations::integers::part` meets its contract, by the operation.
--- Assumes nothing.
 use mathlib.Core.Path.{_≡_, _∙_}
 use mathlib.Core.Bool.{false}
 use lib.IntN.{ℤ, pos}

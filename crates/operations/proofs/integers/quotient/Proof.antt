@@ -1,5 +1,4 @@
 -- `operations::integers::quotient` meets its contract: the magnitudes' quotient, and the sign put back.
--- Assumes nothing.
 use mathlib.Core.Path.{_≡_, refl, ap, _∙_}
 use mathlib.Core.Logic.{⊎-elim}
 use mathlib.Core.Bool.{true, false}

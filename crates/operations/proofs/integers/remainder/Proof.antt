@@ -1,5 +1,4 @@
 -- `operations::integers::remainder` meets its contract: the machine's remainder, and |y| more where that is negative.
--- Assumes nothing.
 use mathlib.Core.Path.{_≡_, refl, sym, _∙_}
 use mathlib.Core.Bool.{Bool, true, false}
 use lib.IntN.{ℤ, pos, negsuc, _+ℤ_, _-ℤ_, natAbs}

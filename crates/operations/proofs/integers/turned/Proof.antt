@@ -1,5 +1,4 @@
 -- `operations::integers::turned` meets its contract, by the sign of the second number.
--- Assumes nothing.
 use mathlib.Core.Path.{_≡_, refl, _∙_}
 use mathlib.Core.Bool.{true, false}
 use native.Mathlib.Omega.{arith}

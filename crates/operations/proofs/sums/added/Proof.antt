@@ -1,5 +1,4 @@
 -- `operations::sums::added` meets its contract, by the cases of both.
--- Assumes nothing.
 use borrow.Author.Needs.{needs}
 use mathlib.Core.Path.{_≡_, refl, ap, _∙_}
 use mathlib.Core.Logic.{⊎-elim}

@@ -1,5 +1,4 @@
 -- `operations::truths::at_level` meets its contract, by the level.
--- Assumes nothing.
 use borrow.Author.Needs.{needs}
 use mathlib.Core.Path.{_≡_, _∙_}
 use borrow.Author.Tests.{eq-eqb, ne-eqb}

@@ -1,5 +1,4 @@
 -- `operations::truths::compare` meets its contract, by its operands' case.
--- Assumes nothing.
 use borrow.Author.Needs.{needs}
 use mathlib.Core.Path.{_≡_, sym, ap, _∙_}
 use mathlib.Core.Bool.{Bool, true}

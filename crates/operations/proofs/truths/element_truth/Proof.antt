@@ -1,5 +1,4 @@
 -- `operations::truths::element_truth` meets its contract, by the element's case.
--- Assumes nothing.
 use borrow.Author.Needs.{needs}
 use mathlib.Core.Path.{_≡_, ap, _∙_}
 use mathlib.Core.Bool.{Bool}

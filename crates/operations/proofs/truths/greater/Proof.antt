@@ -1,5 +1,4 @@
 -- `operations::truths::greater` meets its contract.
--- Assumes nothing.
 use Rattle.operations.proofs.Levels.{or-first, or-second}
 use Rattle.operations.proofs.truths.greater.Statement.{statement}
 use Rattle.operations.proofs.truths.greater.Tie as tie

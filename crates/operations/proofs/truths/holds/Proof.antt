@@ -1,5 +1,4 @@
 -- `operations::truths::holds` meets its contract, by the comparison.
--- Assumes nothing.
 use borrow.Author.Needs.{needs}
 use mathlib.Core.Path.{_≡_, ap}
 use mathlib.Core.Bool.{not}

@@ -1,5 +1,4 @@
 -- `operations::truths::joined` meets its contract, by the connective.
--- Assumes nothing.
 use borrow.Author.Needs.{needs}
 use mathlib.Core.Path.{_≡_, ap, _∙_}
 use Prim.Native.Nat.{ℕ}

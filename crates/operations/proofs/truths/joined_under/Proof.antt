@@ -1,5 +1,4 @@
 -- `operations::truths::joined_under` meets its contract, by the reading.
--- Assumes nothing.
 use borrow.Author.Needs.{needs}
 use mathlib.Core.Path.{_≡_}
 use Prim.Native.Nat.{ℕ}

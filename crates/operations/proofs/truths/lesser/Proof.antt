@@ -1,5 +1,4 @@
 -- `operations::truths::lesser` meets its contract.
--- Assumes nothing.
 use Rattle.operations.proofs.Levels.{and-first, and-second}
 use Rattle.operations.proofs.truths.lesser.Statement.{statement}
 use Rattle.operations.proofs.truths.lesser.Tie as tie

@@ -1,5 +1,4 @@
 -- `operations::truths::open_level` meets its contract, by the reading.
--- Assumes nothing.
 use borrow.Author.Needs.{needs}
 use mathlib.Core.Path.{_≡_}
 use mathlib.Core.Option.{none}

@@ -1,5 +1,4 @@
 -- `operations::truths::opposite` meets its contract, by the level.
--- Assumes nothing.
 use mathlib.Core.Path.{_≡_}
 use borrow.Author.Tests.{eq-eqb, ne-eqb}
 use Prim.Native.Nat.{ℕ}

@@ -1,5 +1,4 @@
 -- `operations::values::limited` meets its contract: its two tests are the limit's.
--- Assumes nothing.
 use mathlib.Core.Path.{_≡_, refl}
 use mathlib.Core.Bool.{Bool, true, false}
 use mathlib.Core.Option.{some}

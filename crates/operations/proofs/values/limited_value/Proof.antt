@@ -1,5 +1,4 @@
 -- `operations::values::limited_value` meets its contract, by the value's case.
--- Assumes nothing.
 use mathlib.Core.Path.{_≡_, ap, sym, _∙_}
 use mathlib.Core.Bool.{Bool}
 use mathlib.Core.Option.{Option, none, some}

@@ -1,5 +1,4 @@
 -- `operations::values::of_walk` meets its contract: each way rewrites with the test that led there.
--- Assumes nothing.
 use Rattle.operations.proofs.values.of_walk.Statement.{statement}
 use Rattle.operations.proofs.values.of_walk.Tie as tie
 

@@ -1,5 +1,4 @@
 -- `operations::values::truth_of` meets its contract: each way rewrites with the test that led there.
--- Assumes nothing.
 use Rattle.operations.proofs.values.truth_of.Statement.{statement}
 use Rattle.operations.proofs.values.truth_of.Tie as tie
 

@@ -1,5 +1,4 @@
 -- `operations::values::undefined` meets its contract.
--- Assumes nothing.
 use mathlib.Core.Path.{_≡_, refl}
 use mathlib.Core.Bool.{Bool, true, false}
 use Rattle.operations.specs.declared.values.Value.the-variants.{Undefined}

@@ -1,5 +1,4 @@
 -- `translator::plans::plan_at` meets its contract.
--- Assumes nothing.
 use mathlib.Core.Path.{refl}
 use native.Mathlib.Omega.{arith}
 use Rattle.translator.specs.Plans.{planOf}

@@ -1,5 +1,4 @@
 -- `translator::plans::plans` meets its contract.
--- Assumes nothing.
 use Rattle.translator.specs.Plans.{plansWith, rulePlans}
 use borrow.Author.Needs.{needs}
 use Rattle.translator.proofs.plans.plans.Statement.{statement}

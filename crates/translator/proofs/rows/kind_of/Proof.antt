@@ -1,5 +1,4 @@
 -- `translator::rows::kind_of` meets its contract.
--- Assumes nothing.
 use borrow.Author.Tests.{eq-eqb, ne-eqb}
 use Rattle.translator.proofs.rows.kind_of.Statement.{statement}
 use Rattle.translator.proofs.rows.kind_of.Tie as tie

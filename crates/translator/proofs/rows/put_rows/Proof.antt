@@ -1,5 +1,4 @@
 -- `translator::rows::put_rows` meets its contract.
--- Assumes nothing.
 use Rattle.translator.proofs.Cells.{written, rows-none, rows-more}
 use Rattle.table.specs.Records.{recordSize}
 use lib.Seq.{sets}

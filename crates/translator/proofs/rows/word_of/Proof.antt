@@ -1,5 +1,4 @@
 -- `translator::rows::word_of` meets its contract.
--- Assumes nothing.
 use Rattle.translator.proofs.Cells.{place-word, place-row}
 use lib.ListN.{getD}
 use native.Mathlib.Omega.{arith}

@@ -1,5 +1,4 @@
 -- `translator::tables::rows` meets its contract.
--- Assumes nothing.
 use mathlib.Core.Path.{refl}
 use Rattle.translator.specs.Plans.{ruleRows}
 use Rattle.translator.proofs.tables.rows.Statement.{statement}

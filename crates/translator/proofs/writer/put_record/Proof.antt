@@ -1,5 +1,4 @@
 -- `translator::writer::put_record` meets its contract.
--- Assumes nothing.
 use mathlib.Core.Path.{_∙_}
 use Rattle.translator.proofs.Stores.{record-stores}
 use Rattle.table.specs.Records.{recordSize}

@@ -1,5 +1,4 @@
 -- `translator::writer::put_word` meets its contract.
--- Assumes nothing.
 use Prim.Native.Nat.{_/_, _%_}
 use Rattle.translator.proofs.Stores.{four-stores}
 use Rattle.table.specs.Records.{wordBytes}

@@ -1,5 +1,4 @@
 -- `writing::words::array_indexes` meets its contract.
--- Assumes nothing.
 use native.Mathlib.Omega.{arith}
 use Rattle.table.specs.Records.{recordSize}
 use Rattle.layout.proofs.Runs.{within-table}

@@ -1,5 +1,4 @@
 -- `writing::words::kept` meets its contract.
--- Assumes nothing.
 use borrow.Author.Needs.{needs}
 use Rattle.writing.proofs.NodeWords.{kept-within, kept-past}
 use Rattle.writing.proofs.words.kept.Statement.{statement}

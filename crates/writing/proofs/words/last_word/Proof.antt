@@ -1,5 +1,4 @@
 -- `writing::words::last_word` meets its contract.
--- Assumes nothing.
 use borrow.Author.Needs.{needs}
 use native.Mathlib.Omega.{arith}
 use Rattle.writing.proofs.Bits.{last-bits}

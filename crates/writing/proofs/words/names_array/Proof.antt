@@ -1,5 +1,4 @@
 -- `writing::words::names_array` meets its contract.
--- Assumes nothing.
 use borrow.Author.Tests.{eq-eqb, ne-eqb}
 use Rattle.writing.specs.Codes.{namesArray}
 use Rattle.writing.proofs.words.names_array.Statement.{statement}

@@ -1,5 +1,4 @@
 -- `writing::words::node_words` meets its contract.
--- Assumes nothing.
 use mathlib.Core.Path.{sym, _∙_}
 use native.Mathlib.Omega.{arith}
 use Rattle.table.specs.Records.{recordSize}

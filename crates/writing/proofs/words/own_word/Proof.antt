@@ -1,5 +1,4 @@
 -- `writing::words::own_word` meets its contract.
--- Assumes nothing.
 use mathlib.Core.Path.{_∙_}
 use native.Mathlib.Omega.{arith}
 use Rattle.layout.proofs.Words.{signed-natAbs-≤}

@@ -1,5 +1,4 @@
 -- `writing::words::within` meets its contract.
--- Assumes nothing.
 use borrow.Author.Tests.{lt-ltb, le-ltb}
 use native.Mathlib.Omega.{arith}
 use Rattle.writing.proofs.words.within.Statement.{statement}
