@@ -1,3 +1,2 @@
 pub mod Declared
 pub mod Nodes
-pub mod Spans

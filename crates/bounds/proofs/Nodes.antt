@@ -24,11 +24,11 @@ use Rattle.answers.specs.Sections.{listed, nodesAt, nodeCount, rowOf, rows, nod
 use Rattle.answers.specs.Check.{refuse, unless, firstFault}
 use Rattle.answers.specs.Answers.{boundsFault}
 use Rattle.answers.proofs.Faults.{first-more, first-at}
-use Rattle.bounds.specs.Spans.{span, opposite, repeated, Small}
+use Rattle.intervals.specs.Spans.{span, opposite, repeated, Small}
 use Rattle.bounds.specs.Kept.{keptAt, treesBefore, endsOf, nodeEnds, Kept}
-use Rattle.bounds.specs.declared.ends.Ends.{Ends}
+use Rattle.intervals.specs.declared.Ends.{Ends}
 use Rattle.answers.proofs.Listed.{length-listed, getD-listed, take-listed}
-use Rattle.bounds.proofs.Spans.{to-cong}
+use Rattle.intervals.proofs.Spans.{to-cong}
 use Rattle.numbers.proofs.Lists.{Filled, filled-none, filled-more}
 
 -- ---- operands

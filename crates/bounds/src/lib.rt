@@ -11,22 +11,22 @@ ghost use Rattle.answers.specs.Sections.{declarations, elementOf, arrayOf, behi
 ghost use Rattle.answers.specs.Answers.{boundsFault};
 ghost use Rattle.layout.specs.Passed.{Passed};
 ghost use Rattle.sections.specs.Places.{placesOf};
-ghost use Rattle.bounds.specs.Spans.{span, asSlot, Narrow};
+ghost use Rattle.intervals.specs.Spans.{span, asSlot, Narrow};
 ghost use Rattle.bounds.specs.Kept.{keptAt, treesBefore, nodeEnds, Kept, Hulls, refusalOf};
-use crate::ends::Ends;
-use crate::ends::greater;
-use crate::ends::hull;
-use crate::ends::lesser;
-use crate::ends::minus;
-use crate::ends::negated;
-use crate::ends::only;
-use crate::ends::plus;
-use crate::ends::quotients;
-use crate::ends::remainders;
-use crate::ends::slot_values;
-use crate::ends::summed;
-use crate::ends::times;
-use crate::ends::within_limit;
+use intervals::Ends;
+use intervals::greater;
+use intervals::hull;
+use intervals::lesser;
+use intervals::minus;
+use intervals::negated;
+use intervals::only;
+use intervals::plus;
+use intervals::quotients;
+use intervals::remainders;
+use intervals::slot_values;
+use intervals::summed;
+use intervals::times;
+use intervals::within_limit;
 use layout::array_records;
 use layout::fields::kind_at;
 use layout::fields::name_x;
@@ -36,8 +36,6 @@ use layout::fields::y_at;
 use sections::Places;
 use table::MOST_RECORDS;
 use table::kind;
-
-pub mod ends;
 
 // What the pass answers: every interval is within the limit, or the record of the first node whose interval is not.
 pub enum Bounds {

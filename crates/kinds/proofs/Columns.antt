@@ -87,18 +87,18 @@ bindsOf-small none = omega arith
 bindsOf-small (some k) = bindsIn-small (k .fieldX) (k .fieldY)
 
 -- What is read out of an entry is what was put in.
-pub entry-x : (k : Option Kind) → entryOf k % 16 ≡ codeX k
+pub entry-x : (k : Option Kind) → entryOf k % 256 ≡ codeX k
 unfolding entryOf
 entry-x k = omega (arith, codeX-small k)
 
-pub entry-y : (k : Option Kind) → entryOf k / 16 % 16 ≡ codeY k
+pub entry-y : (k : Option Kind) → entryOf k / 256 % 256 ≡ codeY k
 unfolding entryOf
 entry-y k = omega (arith, codeX-small k, codeY-small k)
 
-pub entry-yields : (k : Option Kind) → entryOf k / 256 % 2 ≡ tagOf k
+pub entry-yields : (k : Option Kind) → entryOf k / 65_536 % 256 ≡ tagOf k
 unfolding entryOf
 entry-yields k = omega (arith, codeX-small k, codeY-small k, tagOf-small k)
 
-pub entry-binds : (k : Option Kind) → entryOf k / 512 % 2 ≡ bindsOf k
+pub entry-binds : (k : Option Kind) → entryOf k / 16_777_216 ≡ bindsOf k
 unfolding entryOf
 entry-binds k = omega (arith, codeX-small k, codeY-small k, tagOf-small k, bindsOf-small k)

@@ -57,9 +57,9 @@ unfoldable pub bindsOf : Option Kinds.Kind → ℕ
 bindsOf none = 0
 bindsOf (some k) = bindsIn (k .fieldX) (k .fieldY)
 
--- an entry of the code's table: both operands, what the kind yields, and whether it binds a slot
+-- an entry of the code's table, a byte to each part: both operands, what the kind yields, and whether it binds a slot
 unfoldable pub entryOf : Option Kinds.Kind → ℕ
-entryOf k = codeX k + (16 * codeY k + (256 * tagOf k + 512 * bindsOf k))
+entryOf k = codeX k + (256 * codeY k + (65_536 * tagOf k + 16_777_216 * bindsOf k))
 
 -- the row of a kind number: row 0 where there is none
 unfoldable pub rowOf : ℕ → ℕ

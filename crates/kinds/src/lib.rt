@@ -35,13 +35,13 @@ pub const INTEGER_NODE: u32 = 10;
 // What a kind yields.
 const BOOLEAN: u32 = 0;
 
-const INTEGER: u32 = 256;
+const INTEGER: u32 = 65_536;
 
 // A kind that binds slot x in its body y.
-const BINDS: u32 = 512;
+const BINDS: u32 = 16_777_216;
 
-// An entry is x + Y * y + what the kind yields.
-const Y: u32 = 16;
+// An entry is x + Y * y + what the kind yields, each part a byte.
+const Y: u32 = 256;
 
 // The kinds in the order of their numbers.
 const KINDS: [u32; 31] = [
@@ -94,27 +94,27 @@ pub fn row(number: u8) -> usize
 
 // The code of an entry's x, and of its y.
 pub fn x_code(entry: u32) -> u32
-    ensures { λ r. ⌜ r ≡ entry % 16 ⌝ }
+    ensures { λ r. ⌜ r ≡ entry % 256 ⌝ }
 {
     entry % Y
 }
 
 pub fn y_code(entry: u32) -> u32
-    ensures { λ r. ⌜ r ≡ entry / 16 % 16 ⌝ }
+    ensures { λ r. ⌜ r ≡ entry / 256 % 256 ⌝ }
 {
     entry / Y % Y
 }
 
 // 1 for an entry that yields integers.
 pub fn yields(entry: u32) -> u32
-    ensures { λ r. ⌜ r ≡ entry / 256 % 2 ⌝ }
+    ensures { λ r. ⌜ r ≡ entry / 65_536 % 256 ⌝ }
 {
-    entry / INTEGER % 2
+    entry / INTEGER % Y
 }
 
 // 1 for an entry that binds a slot in a body.
 pub fn binds(entry: u32) -> u32
-    ensures { λ r. ⌜ r ≡ entry / 512 % 2 ⌝ }
+    ensures { λ r. ⌜ r ≡ entry / 16_777_216 ⌝ }
 {
-    entry / BINDS % 2
+    entry / BINDS
 }

@@ -137,17 +137,17 @@ module _ {l : List ℕ} {row kind number : ℕ} where
   entry-at : l ≡ map entryOf kinds → row ≡ rowOf kind → kind ≡ number → getD l row 0 ≡ entryOf (kindOf number)
   entry-at el er ek = rw (el, er) (at-row entryOf kind 0 ∙ ap (λ (m : ℕ). entryOf (kindOf m)) ek)
 
-  pub x-coded : {v : ℕ} → v ≡ getD l row 0 % 16 → l ≡ map entryOf kinds → row ≡ rowOf kind → kind ≡ number → v ≡ codeX (kindOf number)
-  x-coded ev el er ek = ev ∙ ap (_% 16) (entry-at el er ek) ∙ entry-x (kindOf number)
+  pub x-coded : {v : ℕ} → v ≡ getD l row 0 % 256 → l ≡ map entryOf kinds → row ≡ rowOf kind → kind ≡ number → v ≡ codeX (kindOf number)
+  x-coded ev el er ek = ev ∙ ap (_% 256) (entry-at el er ek) ∙ entry-x (kindOf number)
 
-  pub y-coded : {v : ℕ} → v ≡ getD l row 0 / 16 % 16 → l ≡ map entryOf kinds → row ≡ rowOf kind → kind ≡ number → v ≡ codeY (kindOf number)
-  y-coded ev el er ek = ev ∙ ap (λ e. e / 16 % 16) (entry-at el er ek) ∙ entry-y (kindOf number)
+  pub y-coded : {v : ℕ} → v ≡ getD l row 0 / 256 % 256 → l ≡ map entryOf kinds → row ≡ rowOf kind → kind ≡ number → v ≡ codeY (kindOf number)
+  y-coded ev el er ek = ev ∙ ap (λ e. e / 256 % 256) (entry-at el er ek) ∙ entry-y (kindOf number)
 
-  pub yields-coded : {v : ℕ} → v ≡ getD l row 0 / 256 % 2 → l ≡ map entryOf kinds → row ≡ rowOf kind → kind ≡ number → v ≡ tagOf (kindOf number)
-  yields-coded ev el er ek = ev ∙ ap (λ e. e / 256 % 2) (entry-at el er ek) ∙ entry-yields (kindOf number)
+  pub yields-coded : {v : ℕ} → v ≡ getD l row 0 / 65_536 % 256 → l ≡ map entryOf kinds → row ≡ rowOf kind → kind ≡ number → v ≡ tagOf (kindOf number)
+  yields-coded ev el er ek = ev ∙ ap (λ e. e / 65_536 % 256) (entry-at el er ek) ∙ entry-yields (kindOf number)
 
-  pub binds-coded : {v : ℕ} → v ≡ getD l row 0 / 512 % 2 → l ≡ map entryOf kinds → row ≡ rowOf kind → kind ≡ number → v ≡ bindsOf (kindOf number)
-  binds-coded ev el er ek = ev ∙ ap (λ e. e / 512 % 2) (entry-at el er ek) ∙ entry-binds (kindOf number)
+  pub binds-coded : {v : ℕ} → v ≡ getD l row 0 / 16_777_216 → l ≡ map entryOf kinds → row ≡ rowOf kind → kind ≡ number → v ≡ bindsOf (kindOf number)
+  binds-coded ev el er ek = ev ∙ ap (λ e. e / 16_777_216) (entry-at el er ek) ∙ entry-binds (kindOf number)
 
 -- a kind yields one of two types
 pub small-tag : (o : Option Kind) → tagOf o ≤ 1

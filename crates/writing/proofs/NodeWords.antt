@@ -57,11 +57,11 @@ not-looked-up A e = rw e
 -- ---- fields
 
 -- The code of a kind's x, read out of the kind's entry.
-pub code-is : {entries : List ℕ} {i k code : ℕ} → code ≡ getD entries i 0 % 16 → entries ≡ map entryOf kinds → i ≡ k → k < 31 → code ≡ codeX (kindOf k)
+pub code-is : {entries : List ℕ} {i k code : ℕ} → code ≡ getD entries i 0 % 256 → entries ≡ map entryOf kinds → i ≡ k → k < 31 → code ≡ codeX (kindOf k)
 unfolding rowOf
 code-is {entries} {i} {k} c e f h =
     let entry : getD entries i 0 ≡ entryOf (kindOf k) = rw (e, f) (ap (λ r. getD (map entryOf kinds) r 0) (sym (rw (lt-ltb k 31 h))) ∙ at-row entryOf k 0) in
-    c ∙ ap (_% 16) entry ∙ entry-x (kindOf k)
+    c ∙ ap (_% 256) entry ∙ entry-x (kindOf k)
 
 module _ (bs : List ℕ) (p : ℕ) {w : ℕ} (is-x : w ≡ wordAt bs (12 * p + 4)) where
   -- The number that x names.

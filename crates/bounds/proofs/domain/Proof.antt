@@ -1,6 +1,6 @@
 -- `bounds::domain` meets its contract.
 use Rattle.bounds.proofs.Declared.{domain-of, no-domain}
-use Rattle.bounds.proofs.Spans.{to-cong}
+use Rattle.intervals.proofs.Spans.{to-cong}
 use Rattle.layout.proofs.Order.{laid}
 use Rattle.layout.proofs.Runs.{within-table}
 use Rattle.answers.specs.Sections.{variableCount, variablesAt}

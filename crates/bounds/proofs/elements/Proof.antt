@@ -1,7 +1,7 @@
 -- `bounds::elements` meets its contract.
 use Rattle.bounds.proofs.Declared.{elements-none, elements-one, elements-more}
-use Rattle.bounds.proofs.Spans.{hull-cong}
-use Rattle.bounds.specs.Spans.{span}
+use Rattle.intervals.proofs.Spans.{hull-cong}
+use Rattle.intervals.specs.Spans.{span}
 use Rattle.layout.proofs.Runs.{within-table}
 use Rattle.answers.specs.Sections.{listed, declarations, elementOf, arrayOf, behindArray}
 use Rattle.rules.specs.Bounds.{hull, elementInterval, elementsInterval}

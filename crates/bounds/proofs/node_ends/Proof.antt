@@ -4,9 +4,9 @@ use lib.ListN.{getD}
 use lib.IntN.{pos, natAbs}
 use Rattle.bounds.proofs.Nodes.{operand-is, operand-small}
 use Rattle.bounds.proofs.Nodes as Nodes
-use Rattle.bounds.proofs.Spans.{to-cong}
+use Rattle.intervals.proofs.Spans.{to-cong}
 use Rattle.bounds.specs.Kept.{treesBefore}
-use Rattle.bounds.specs.Spans.{span, opposite, repeated, Small}
+use Rattle.intervals.specs.Spans.{span, opposite, repeated, Small}
 use Rattle.layout.proofs.Order.{laid}
 use Rattle.layout.proofs.Runs.{within-table}
 use Rattle.answers.specs.Sections.{declarations, nodeCount, nodesAt}

@@ -1,5 +1,5 @@
 -- `bounds::operand` meets its contract.
-use Rattle.bounds.proofs.Spans.{to-cong}
+use Rattle.intervals.proofs.Spans.{to-cong}
 use mir.Facts.{toZ-ofZ}
 use mathlib.Core.Path.{_∙_}
 use borrow.Author.Needs.{needs}

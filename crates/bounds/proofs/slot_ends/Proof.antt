@@ -1,6 +1,6 @@
 -- `bounds::slot_ends` meets its contract.
 use Rattle.bounds.proofs.Declared.{slot-of, no-slot}
-use Rattle.bounds.proofs.Spans.{slot-cong}
+use Rattle.intervals.proofs.Spans.{slot-cong}
 use Rattle.layout.proofs.Words.{xAt-natAbs-≤, yAt-natAbs-≤}
 use Rattle.layout.proofs.Order.{laid}
 use Rattle.layout.proofs.Runs.{within-table}
