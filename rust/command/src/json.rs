@@ -1,6 +1,6 @@
 //! Objects of JSON, one to a line.
 
-use crate::printable::obeyed;
+use barfigol_format::printable::obeyed;
 use std::fmt::Display;
 
 /// An object in the making. Its keys stand in the order they are given.

@@ -1,5 +1,6 @@
 //! A table from its text.
 
+use crate::printable::quoted;
 use crate::row::REST_WORD;
 use crate::{bytes_of, Row, ROW_BYTES};
 use std::error::Error;
@@ -12,9 +13,10 @@ const FIELDS: [&str; 5] = ["mark", "kind", "aux", "x", "y"];
 /// blanks between them, as [`show`](crate::show) and a listing have them.
 ///
 /// A comment stands behind `#`, or behind y and two spaces or a tab. Empty lines
-/// are left out. A byte of a mark may be written `\x` and two hexadecimal digits. `?` for the x of HD is the number of
-/// records. Bytes that are no record stand behind the word `bytes`, in
-/// hexadecimal. Nothing is checked beyond the range of each field.
+/// are left out. A byte of a mark may be written `\x` and two hexadecimal
+/// digits. `?` for the x of HD is the number of records. Bytes that are no
+/// record stand behind the word `bytes`, in hexadecimal. Nothing is checked
+/// beyond the range of each field.
 ///
 /// ```
 /// let text = "
@@ -201,16 +203,6 @@ fn from_hex(digits: &[u8]) -> Option<Vec<u8>> {
     let digit = |&letter: &u8| char::from(letter).to_digit(16);
     let pair = |pair: &[u8]| Some((digit(&pair[0])? * 16 + digit(&pair[1])?) as u8);
     digits.chunks(2).map(pair).collect()
-}
-
-/// A word of the text for a message, cut where it is long. Control characters
-/// are written so that they are seen.
-fn quoted(word: &[u8]) -> String {
-    const MOST: usize = 40;
-    let text = String::from_utf8_lossy(word);
-    let start: String = text.chars().take(MOST).collect();
-    let more = if start.len() < text.len() { ".." } else { "" };
-    format!("'{}{more}'", start.escape_debug())
 }
 
 /// Why a text is no table: the first line that is at fault.

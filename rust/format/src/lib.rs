@@ -5,7 +5,7 @@
 //! is the table of kinds and [`limits`] names the limits. [`show`] writes any
 //! bytes as text and [`assemble`] reads such text back. [`faults`] tells what
 //! the check refuses, [`intervals`] which node may pass the limit of values, and
-//! [`cost`] counts steps.
+//! [`cost`] counts steps. [`printable`] makes words of others fit for a terminal.
 //!
 //! Callers get their answers from the proved library. What stands here makes
 //! tables and explains answers.
@@ -38,6 +38,7 @@ pub mod limits;
 mod meaning;
 mod names;
 mod order;
+pub mod printable;
 mod row;
 mod show;
 pub mod words;

@@ -116,7 +116,7 @@ fn wrong_marks() {
         assert_error(&format!("{word} 9 0 0 1"), &format!("{quoted} {rule}"));
     }
     let long = "a".repeat(1_000_000);
-    let quoted = format!("'{}..'", "a".repeat(40));
+    let quoted = format!("'{}..'", "a".repeat(80));
     assert_error(&long, &format!("{quoted} {rule}"));
 }
 
