@@ -1,22 +1,18 @@
-//! docs/TABLE.md says what the code has: kinds, refusals, limits, and the text
-//! of a table.
+//! docs/TABLE.md says what the code has: kinds, refusals and limits.
 
-use barfigol::{check, Refusal};
+use barfigol::Refusal;
 use barfigol_format::kinds::KINDS;
 use barfigol_format::limits::{
     INDEX_LIMIT, MOST_ARRAYS, MOST_BYTES, MOST_ELEMENTS, MOST_RECORDS, MOST_SLOTS,
     MOST_SLOT_VALUES, MOST_VARIABLES, VALUE_LIMIT,
 };
-use barfigol_format::{assemble, show, ROW_BYTES};
+use barfigol_format::ROW_BYTES;
 use std::fs;
-use std::path::{Path, PathBuf};
+use std::path::Path;
 
-fn root() -> PathBuf {
-    Path::new(env!("CARGO_MANIFEST_DIR")).join("../..")
-}
-
-fn text(name: &str) -> String {
-    fs::read_to_string(root().join(name)).expect(name)
+fn page() -> String {
+    let root = Path::new(env!("CARGO_MANIFEST_DIR")).join("../..");
+    fs::read_to_string(root.join("docs/TABLE.md")).expect("the page")
 }
 
 /// The rows of the table whose first column has this head, each by its cells.
@@ -35,18 +31,9 @@ fn rows_under(page: &str, head: &str) -> Vec<Vec<String>> {
     rows.map(cells).collect()
 }
 
-/// The fenced blocks of a page that have a certain word after the fence.
-fn blocks(page: &str, word: &str) -> Vec<String> {
-    let fence = format!("\n```{word}\n");
-    let after = page.split(fence.as_str()).skip(1);
-    after
-        .map(|rest| rest.split("```").next().unwrap_or("").to_string())
-        .collect()
-}
-
 #[test]
 fn the_kinds_of_nodes() {
-    let rows = rows_under(&text("docs/TABLE.md"), "Kind");
+    let rows = rows_under(&page(), "Kind");
     let written: Vec<Vec<String>> = rows.iter().map(|row| row[..5].to_vec()).collect();
     let kinds: Vec<Vec<String>> = KINDS
         .iter()
@@ -65,7 +52,7 @@ fn the_kinds_of_nodes() {
 
 #[test]
 fn the_numbers_of_refusals() {
-    let rows = rows_under(&text("docs/TABLE.md"), "Number");
+    let rows = rows_under(&page(), "Number");
     let written: Vec<Vec<String>> = rows.iter().map(|row| row[..2].to_vec()).collect();
     let refusals: Vec<Vec<String>> = (1..=11)
         .map(|number| {
@@ -86,7 +73,7 @@ fn grouped(number: i64) -> String {
 
 #[test]
 fn the_limits() {
-    let page = text("docs/TABLE.md");
+    let page = page();
     let sentences = [
         format!("records of {ROW_BYTES} bytes"),
         format!(
@@ -109,23 +96,4 @@ fn the_limits() {
     for sentence in sentences {
         assert!(page.contains(&sentence), "{sentence}");
     }
-}
-
-/// The page's example is the file, and a sound table.
-#[test]
-fn the_table_by_hand() {
-    let blocks = blocks(&text("docs/TABLE.md"), "records");
-    assert_eq!(blocks, [text("examples/shelf.txt")]);
-    let table = assemble(&blocks[0]).expect("a table");
-    assert_eq!(check(&table), Ok(()));
-    assert_eq!(assemble(show(&table)), Ok(table));
-}
-
-/// Listings and notes of the other pages are texts of tables too.
-#[test]
-fn the_records_of_the_placement_model() {
-    let blocks = blocks(&text("docs/PLACEMENT.md"), "records");
-    assert_eq!(blocks.len(), 1);
-    let file = fs::read(root().join("examples/placement.table")).expect("a file");
-    assert_eq!(assemble(&blocks[0]), Ok(file));
 }

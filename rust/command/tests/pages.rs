@@ -6,7 +6,7 @@
 
 mod common;
 
-use barfigol_tables::{placement::placement, pretty, Node, Table};
+use barfigol_format::{assemble, Node, Table};
 use common::{assert_done, example, folder, root, run, run_with, COMMAND};
 use std::fs;
 use std::path::{Path, PathBuf};
@@ -159,14 +159,17 @@ fn the_connectives_of_the_readings() {
     }
 }
 
-/// The records of the model, each before a note, are those of its table.
+/// The records of the pages are texts of tables: those of the files.
 #[test]
-fn the_records_of_the_placement_model() {
-    let blocks = blocks(&page("docs/PLACEMENT.md"), "records");
-    assert_eq!(blocks.len(), 1);
-    let record = |line: &str| line.split("  ").next().unwrap_or("").to_string() + "\n";
-    let records: String = blocks[0].lines().map(record).collect();
-    assert_eq!(records, pretty(&placement().bytes()));
+fn the_records_of_the_pages() {
+    let blocks_of = |name: &str| blocks(&page(name), "records");
+    assert_eq!(blocks_of("docs/TABLE.md"), [page("examples/shelf.txt")]);
+    let shelf = assemble(page("examples/shelf.txt")).expect("a table");
+    assert_done(&run_with(&["check", "-"], &shelf), "sound\n");
+    let placement = fs::read(example("placement.table")).expect("a table");
+    let records = blocks_of("docs/PLACEMENT.md");
+    let tables: Vec<_> = records.iter().map(assemble).collect();
+    assert_eq!(tables, [Ok(placement)]);
 }
 
 /// The first page has the listing that its first command prints.
