@@ -4,9 +4,8 @@ mod common;
 
 use barfigol_tables::{limits, Table};
 use common::{assert_answer, assert_done, assert_misused, assert_no, assert_refused};
-use common::{example, file, folder, run, run_with, text, COMMAND, INPUT};
+use common::{example, file, folder, run, run_with, started, text, INPUT};
 use std::io::{BufRead, BufReader, Write};
-use std::process::{Command, Stdio};
 use std::sync::mpsc;
 use std::thread;
 use std::time::Duration;
@@ -193,18 +192,8 @@ fn wrong_use_of_assignments() {
 /// next line.
 #[test]
 fn answers_come_line_by_line() {
-    let mut child = Command::new(COMMAND)
-        .args([
-            "evaluate",
-            "relational",
-            &example("p4.table"),
-            "--assignments",
-            "-",
-        ])
-        .stdin(Stdio::piped())
-        .stdout(Stdio::piped())
-        .spawn()
-        .expect("the command starts");
+    let table = &example("p4.table");
+    let mut child = started(&["evaluate", "relational", table, "--assignments", "-"]);
     let mut input = child.stdin.take().expect("a pipe");
     let output = BufReader::new(child.stdout.take().expect("a pipe"));
     let (sender, answers) = mpsc::channel();
@@ -219,8 +208,7 @@ fn answers_come_line_by_line() {
     assert_eq!(child.wait().expect("the command ends").code(), Some(3));
 }
 
-/// Many assignments need no start of a process each: they are answered within
-/// a time in which a hundred processes could hardly start.
+/// Many assignments need no start of a process each.
 #[test]
 fn a_hundred_thousand_assignments() {
     let lines = "0\n1\n".repeat(50_000);

@@ -3,28 +3,15 @@
 mod common;
 
 use barfigol_tables::{limits, trials};
-use common::{example, folder, shell, COMMAND};
-use std::io::Write;
-use std::process::{Command, Stdio};
+use common::{ended, example, folder, shell, started, Ran};
 
 /// The status and the complaints of the command where the reader is gone before
 /// it has its input.
 fn nobody_reads(words: &[&str], input: &[u8]) -> (Option<i32>, String) {
-    let mut child = Command::new(COMMAND)
-        .args(words)
-        .stdin(Stdio::piped())
-        .stdout(Stdio::piped())
-        .stderr(Stdio::piped())
-        .spawn()
-        .expect("the command starts");
+    let mut child = started(words);
     drop(child.stdout.take());
-    let mut pipe = child.stdin.take().expect("a pipe");
-    // The command need not read all of it.
-    let _ = pipe.write_all(input);
-    drop(pipe);
-    let output = child.wait_with_output().expect("the command ends");
-    let err = String::from_utf8(output.stderr).expect("text");
-    (output.status.code(), err)
+    let ran = Ran::from(ended(child, input));
+    (ran.status, ran.err)
 }
 
 #[test]

@@ -4,20 +4,16 @@
 mod common;
 
 use barfigol_tables::trials;
-use common::COMMAND;
-use common::{assert_done, assert_misused, example, file, folder, names, run, shell, text};
+use common::{assert_done, assert_misused, ended, example, file, folder, names};
+use common::{run, shell, started, text};
 use std::fs;
 use std::os::unix::fs::symlink;
 use std::path::Path;
-use std::process::Command;
 
-/// The bytes of P4's relational translation, by way of a plain file.
+/// The bytes of P4's relational translation, as the library gives them.
 fn translation() -> Vec<u8> {
-    let mut bytes = vec![0; barfigol::MOST_BYTES];
     let table = trials::p4().bytes();
-    let length = barfigol::translate_into(barfigol::Reading::Relational, &table, &mut bytes);
-    bytes.truncate(length.expect("a translation"));
-    bytes
+    barfigol::translate(barfigol::Reading::Relational, &table).expect("a translation")
 }
 
 /// A folder with P4's table, and a log that has a line.
@@ -39,10 +35,8 @@ fn line_and_translation() -> Vec<u8> {
 
 #[test]
 fn a_dash_is_standard_output() {
-    let output = Command::new(COMMAND)
-        .args(["translate", "relational", &example("p4.table"), "-"])
-        .output()
-        .expect("the command starts");
+    let child = started(&["translate", "relational", &example("p4.table"), "-"]);
+    let output = ended(child, &[]);
     assert_eq!(output.status.code(), Some(0));
     assert_eq!(output.stdout, translation());
     let folder = with_log("dash");
@@ -303,15 +297,8 @@ fn a_reader_sees_old_or_new() {
     let (old, new) = (vec![b'x'; 100_000], translation());
     for _ in 0..20 {
         fs::write(&path, &old).expect("a file");
-        let mut child = Command::new(COMMAND)
-            .args([
-                "translate",
-                "relational",
-                &example("p4.table"),
-                &text(&path),
-            ])
-            .spawn()
-            .expect("the command starts");
+        let table = &example("p4.table");
+        let mut child = started(&["translate", "relational", table, &text(&path)]);
         loop {
             let seen = fs::read(&path).expect("never missing");
             assert!(seen == old || seen == new, "{} bytes", seen.len());

@@ -3,25 +3,13 @@
 mod common;
 
 use barfigol_tables::{examples, limits, trials};
-use common::{assert_done, assert_misused, assert_refused, example, file, folder, names};
-use common::{run, run_with, shell, text, COMMAND, INPUT};
+use common::{assert_done, assert_misused, assert_refused, ended, example, file, folder};
+use common::{names, run, run_with, shell, started, text, INPUT};
 use std::fs;
-use std::io::Write;
-use std::process::{Command, Stdio};
 
 /// The bytes that a run prints, with some bytes on standard input.
 fn bytes_of_run(words: &[&str], input: &[u8]) -> Vec<u8> {
-    let mut child = Command::new(COMMAND)
-        .args(words)
-        .stdin(Stdio::piped())
-        .stdout(Stdio::piped())
-        .spawn()
-        .expect("the command starts");
-    let mut pipe = child.stdin.take().expect("a pipe");
-    let input = input.to_vec();
-    let writer = std::thread::spawn(move || pipe.write_all(&input));
-    let output = child.wait_with_output().expect("the command ends");
-    writer.join().expect("a thread").expect("a reader");
+    let output = ended(started(words), input);
     assert_eq!(output.status.code(), Some(0));
     output.stdout
 }

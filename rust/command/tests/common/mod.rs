@@ -7,7 +7,8 @@ pub mod json;
 use std::ffi::OsStr;
 use std::io::Write;
 use std::path::{Path, PathBuf};
-use std::process::{Command, Output, Stdio};
+use std::process::{Child, Command, Output, Stdio};
+use std::thread;
 
 /// The command under test.
 pub const COMMAND: &str = env!("CARGO_BIN_EXE_barfigol");
@@ -38,18 +39,29 @@ pub fn run<S: AsRef<OsStr>>(words: &[S]) -> Ran {
 
 /// Runs the command with some bytes on standard input.
 pub fn run_with<S: AsRef<OsStr>>(words: &[S], input: &[u8]) -> Ran {
-    let mut child = Command::new(COMMAND)
+    ended(started(words), input).into()
+}
+
+/// Starts the command with a pipe at each of its three ends.
+pub fn started<S: AsRef<OsStr>>(words: &[S]) -> Child {
+    Command::new(COMMAND)
         .args(words)
         .stdin(Stdio::piped())
         .stdout(Stdio::piped())
         .stderr(Stdio::piped())
         .spawn()
-        .expect("the command starts");
+        .expect("the command starts")
+}
+
+/// Gives a command its input, and waits for its end.
+pub fn ended(mut child: Child, input: &[u8]) -> Output {
     let mut pipe = child.stdin.take().expect("a pipe");
-    // The command need not read all of it.
-    let _ = pipe.write_all(input);
-    drop(pipe);
-    child.wait_with_output().expect("the command ends").into()
+    let input = input.to_vec();
+    // It need not read all of it, and may write before it does.
+    let writer = thread::spawn(move || pipe.write_all(&input));
+    let output = child.wait_with_output().expect("the command ends");
+    let _ = writer.join().expect("a thread");
+    output
 }
 
 /// Says that a run ends with a status, prints a text, and complains of nothing.
