@@ -1,6 +1,7 @@
 //! The kinds of nodes, with what each field stands for.
 
 use std::fmt;
+use Type::{Bool, Integer};
 
 /// The type of a variable, an array or a node.
 #[derive(Clone, Copy, Debug, PartialEq, Eq)]
@@ -110,11 +111,11 @@ impl Kind {
 }
 
 const NONE: Field = Field::Unused;
-const INTEGER: Field = Field::Node(Type::Integer);
-const BOOL: Field = Field::Node(Type::Bool);
+const INTEGER: Field = Field::Node(Integer);
+const BOOL: Field = Field::Node(Bool);
 
-const fn integer(number: u8, x: Field, y: Field, form: &'static str) -> Kind {
-    let yields = Type::Integer;
+/// A kind, in the order of the columns of docs/TABLE.md.
+const fn kind(number: u8, form: &'static str, x: Field, y: Field, yields: Type) -> Kind {
     Kind {
         number,
         x,
@@ -124,47 +125,36 @@ const fn integer(number: u8, x: Field, y: Field, form: &'static str) -> Kind {
     }
 }
 
-const fn bool(number: u8, x: Field, y: Field, form: &'static str) -> Kind {
-    let yields = Type::Bool;
-    Kind {
-        number,
-        x,
-        y,
-        yields,
-        form,
-    }
-}
-
-/// All kinds, those of each type with what x and y stand for.
+/// All kinds, by their numbers.
 pub const KINDS: [Kind; 28] = [
-    integer(1, Field::Integer, NONE, "{x}"),
-    bool(2, Field::Truth, NONE, "{x}"),
-    integer(3, Field::Variable(Type::Integer), NONE, "{x}"),
-    bool(4, Field::Variable(Type::Bool), NONE, "{x}"),
-    integer(5, Field::Slot, NONE, "{x}"),
-    integer(6, INTEGER, INTEGER, "{x} + {y}"),
-    integer(7, INTEGER, INTEGER, "{x} - {y}"),
-    integer(8, INTEGER, INTEGER, "{x} * {y}"),
-    integer(9, INTEGER, INTEGER, "{x} div {y}"),
-    integer(10, INTEGER, INTEGER, "{x} mod {y}"),
-    integer(11, INTEGER, NONE, "minus {x}"),
-    integer(12, INTEGER, INTEGER, "min({x}, {y})"),
-    integer(13, INTEGER, INTEGER, "max({x}, {y})"),
-    integer(14, BOOL, NONE, "boolToInt({x})"),
-    integer(15, Field::Array(Type::Integer), INTEGER, "{x} at {y}"),
-    bool(16, Field::Array(Type::Bool), INTEGER, "{x} at {y}"),
-    integer(17, Field::Slot, INTEGER, "sum over {x} of {y}"),
-    bool(20, BOOL, BOOL, "{x} and {y}"),
-    bool(21, BOOL, BOOL, "{x} or {y}"),
-    bool(22, BOOL, BOOL, "{x} implies {y}"),
-    bool(23, BOOL, BOOL, "{x} iff {y}"),
-    bool(24, BOOL, NONE, "not {x}"),
-    bool(25, INTEGER, INTEGER, "{x} = {y}"),
-    bool(26, INTEGER, INTEGER, "{x} != {y}"),
-    bool(27, INTEGER, INTEGER, "{x} <= {y}"),
-    bool(28, INTEGER, INTEGER, "{x} < {y}"),
-    bool(29, Field::Slot, BOOL, "exists over {x} of {y}"),
-    bool(30, Field::Slot, BOOL, "forall over {x} of {y}"),
+    kind(1, "{x}", Field::Integer, NONE, Integer),
+    kind(2, "{x}", Field::Truth, NONE, Bool),
+    kind(3, "{x}", Field::Variable(Integer), NONE, Integer),
+    kind(4, "{x}", Field::Variable(Bool), NONE, Bool),
+    kind(5, "{x}", Field::Slot, NONE, Integer),
+    kind(6, "{x} + {y}", INTEGER, INTEGER, Integer),
+    kind(7, "{x} - {y}", INTEGER, INTEGER, Integer),
+    kind(8, "{x} * {y}", INTEGER, INTEGER, Integer),
+    kind(9, "{x} div {y}", INTEGER, INTEGER, Integer),
+    kind(10, "{x} mod {y}", INTEGER, INTEGER, Integer),
+    kind(11, "minus {x}", INTEGER, NONE, Integer),
+    kind(12, "min({x}, {y})", INTEGER, INTEGER, Integer),
+    kind(13, "max({x}, {y})", INTEGER, INTEGER, Integer),
+    kind(14, "boolToInt({x})", BOOL, NONE, Integer),
+    kind(15, "{x} at {y}", Field::Array(Integer), INTEGER, Integer),
+    kind(16, "{x} at {y}", Field::Array(Bool), INTEGER, Bool),
+    kind(17, "sum over {x} of {y}", Field::Slot, INTEGER, Integer),
+    kind(20, "{x} and {y}", BOOL, BOOL, Bool),
+    kind(21, "{x} or {y}", BOOL, BOOL, Bool),
+    kind(22, "{x} implies {y}", BOOL, BOOL, Bool),
+    kind(23, "{x} iff {y}", BOOL, BOOL, Bool),
+    kind(24, "not {x}", BOOL, NONE, Bool),
+    kind(25, "{x} = {y}", INTEGER, INTEGER, Bool),
+    kind(26, "{x} != {y}", INTEGER, INTEGER, Bool),
+    kind(27, "{x} <= {y}", INTEGER, INTEGER, Bool),
+    kind(28, "{x} < {y}", INTEGER, INTEGER, Bool),
+    kind(29, "exists over {x} of {y}", Field::Slot, BOOL, Bool),
+    kind(30, "forall over {x} of {y}", Field::Slot, BOOL, Bool),
 ];
 
 /// The kind with this number, if there is one.
