@@ -6,6 +6,7 @@ use barfigol_format::limits::{
     INDEX_LIMIT, MOST_ARRAYS, MOST_BYTES, MOST_ELEMENTS, MOST_RECORDS, MOST_SLOTS,
     MOST_SLOT_VALUES, MOST_VARIABLES, VALUE_LIMIT,
 };
+use barfigol_format::words::grouped;
 use barfigol_format::ROW_BYTES;
 use std::fs;
 use std::path::Path;
@@ -63,14 +64,6 @@ fn the_numbers_of_refusals() {
     assert_eq!(written, refusals);
 }
 
-/// A number with commas between its thousands.
-fn grouped(number: i64) -> String {
-    if number < 1_000 {
-        return number.to_string();
-    }
-    format!("{},{:03}", grouped(number / 1_000), number % 1_000)
-}
-
 #[test]
 fn the_limits() {
     let page = page();
@@ -78,20 +71,20 @@ fn the_limits() {
         format!("records of {ROW_BYTES} bytes"),
         format!(
             "{} bytes: {} records",
-            grouped(MOST_BYTES as i64),
-            grouped(MOST_RECORDS as i64)
+            grouped(MOST_BYTES as u64),
+            grouped(MOST_RECORDS as u64)
         ),
         format!("| at most {MOST_VARIABLES} VR |"),
         format!(
             "at most {MOST_SLOTS}, each of at most {} values",
-            grouped(MOST_SLOT_VALUES)
+            grouped(MOST_SLOT_VALUES as u64)
         ),
         format!(
             "its elements, 1 to {} | at most {MOST_ARRAYS} |",
-            grouped(MOST_ELEMENTS.into())
+            grouped(MOST_ELEMENTS as u64)
         ),
-        format!("lie within ±{}", grouped(INDEX_LIMIT.into())),
-        format!("goes beyond ±{}", grouped(VALUE_LIMIT)),
+        format!("lie within ±{}", grouped(INDEX_LIMIT as u64)),
+        format!("goes beyond ±{}", grouped(VALUE_LIMIT as u64)),
     ];
     for sentence in sentences {
         assert!(page.contains(&sentence), "{sentence}");

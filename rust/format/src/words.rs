@@ -1,4 +1,4 @@
-//! Words for what explanations tell of.
+//! Marks, counts and numbers as words.
 
 use std::fmt::Display;
 
@@ -35,4 +35,19 @@ pub fn numbered(count: impl Display, what: &str) -> String {
     let count = count.to_string();
     let ending = if count == "1" { "" } else { "s" };
     format!("{count} {what}{ending}")
+}
+
+/// A number with commas between its thousands.
+///
+/// ```
+/// use barfigol_format::words::grouped;
+///
+/// assert_eq!(grouped(999), "999");
+/// assert_eq!(grouped(2_000_000_001), "2,000,000,001");
+/// ```
+pub fn grouped(number: u64) -> String {
+    if number < 1_000 {
+        return number.to_string();
+    }
+    format!("{},{:03}", grouped(number / 1_000), number % 1_000)
 }

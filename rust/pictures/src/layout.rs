@@ -6,6 +6,7 @@ use crate::svg::{
 use barfigol_format::limits::{
     MOST_ARRAYS, MOST_ELEMENTS, MOST_RECORDS, MOST_SLOTS, MOST_VARIABLES,
 };
+use barfigol_format::words::grouped;
 use barfigol_format::{bytes_of, show, ROW_BYTES};
 use barfigol_tables::placement::placement;
 
@@ -43,7 +44,7 @@ pub fn picture() -> String {
     let title = format!("A record: {ROW_BYTES} bytes");
     drawing.text((24, 36), Anchor::Start, TITLE, &title);
     record(&mut drawing, 56);
-    let most = grouped(MOST_RECORDS);
+    let most = grouped(MOST_RECORDS as u64);
     let title = format!("A table: its sections in order, {most} records at most");
     drawing.text((24, 268), Anchor::Start, TITLE, &title);
     sections(&mut drawing, 288);
@@ -93,9 +94,9 @@ struct Section(&'static str, &'static str, String, String, Paint);
 
 fn all_sections() -> [Section; 6] {
     let any = || String::from("any number");
-    let up_to = |most: usize| format!("0 to {}", grouped(most));
+    let up_to = |most: usize| format!("0 to {}", grouped(most as u64));
     let one = String::from("exactly 1");
-    let elements = format!("1 to {} EL each", grouped(MOST_ELEMENTS as usize));
+    let elements = format!("1 to {} EL each", grouped(MOST_ELEMENTS as u64));
     let [variables, slots, arrays] = [MOST_VARIABLES, MOST_SLOTS, MOST_ARRAYS].map(up_to);
     [
         Section("HD", "head", one, "x: how many records".into(), PLAIN),
@@ -137,12 +138,4 @@ fn sections(drawing: &mut Drawing, y: i32) {
         }
         last = Some(area);
     }
-}
-
-/// A number with commas between its thousands.
-fn grouped(number: usize) -> String {
-    if number < 1_000 {
-        return number.to_string();
-    }
-    format!("{},{:03}", grouped(number / 1_000), number % 1_000)
 }
