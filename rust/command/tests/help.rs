@@ -137,6 +137,7 @@ fn the_man_page_has_everything() {
         "EXIT STATUS",
         "JSON",
         "EXAMPLES",
+        "SEE ALSO",
     ] {
         assert!(page.contains(&format!("\n.SH {section}\n")), "{section}");
     }

@@ -198,27 +198,39 @@ fn many_evaluations_of_a_faulty_table() {
     assert!(!objects[0].keys().contains(&"line"));
 }
 
-/// Every key that stands in an object is described in the help.
-#[test]
-fn the_help_has_every_key() {
-    let help = run(&["help", "evaluate"]).out;
-    let table = trials::p4().bytes();
-    let mut printed = run_with(&["evaluate", "--json", "1", "-", "9"], &table).out;
-    printed += &run(&["check", "--json", "missing", &example("faulty.table")]).out;
-    printed += &run_with(
-        &[
-            "evaluate",
-            "--json",
-            "1",
-            &example("p4.table"),
-            "--assignments=-",
-        ],
-        b"0",
-    )
-    .out;
-    for object in parse_lines(&printed) {
+/// The keys that the help of a command describes.
+fn described(command: &str) -> Vec<String> {
+    let help = run(&["help", command]).out;
+    let section = help.split("\nKeys of JSON, in this order:\n").nth(1);
+    let lines = section.expect("keys").lines();
+    let entries = lines.take_while(|line| !line.is_empty());
+    let names = entries.filter_map(|line| line.strip_prefix("  ")?.split(' ').next());
+    let names = names.filter(|name| !name.is_empty());
+    names.map(String::from).collect()
+}
+
+/// Says that each object has keys that the help describes, in its order, and
+/// that all of these stand in some object.
+fn assert_described(command: &str, printed: &str) {
+    let described = described(command);
+    let objects = parse_lines(printed);
+    for object in &objects {
+        let mut rest = described.iter();
         for key in object.keys() {
-            assert!(help.contains(&format!("\n  {key} ")), "{key}");
+            assert!(rest.any(|name| name == key), "{command}: {key}");
         }
     }
+    for name in &described {
+        let has = |object: &Json| object.keys().contains(&name.as_str());
+        assert!(objects.iter().any(has), "{command}: {name}");
+    }
+}
+
+#[test]
+fn the_help_describes_every_key() {
+    let (p4, faulty) = (&example("p4.table"), &example("faulty.table"));
+    let checks = run(&["check", "--json", "missing", faulty, p4]).out;
+    assert_described("check", &checks);
+    let words = ["evaluate", "--json", "1", p4, "--assignments=-"];
+    assert_described("evaluate", &run_with(&words, b"0\n9\n").out);
 }

@@ -8,7 +8,7 @@ mod statuses;
 mod switches;
 
 pub use commands::COMMANDS;
-pub use json::JSON;
+pub use json::{Key, KEYS};
 pub use operands::OPERANDS;
 pub use statuses::STATUSES;
 pub use switches::{ASSIGNMENTS, BUDGET, COMPLETIONS, HELP, JSON_LINES, MAN, QUIET, VERSION};
@@ -144,6 +144,12 @@ impl SubCommand {
         words.join(" ")
     }
 
+    /// The keys of its objects of JSON, if it prints any.
+    pub fn keys(&self) -> impl Iterator<Item = &'static Key> {
+        let task = self.task;
+        KEYS.iter().filter(move |key| key.of.contains(&task))
+    }
+
     /// The fewest and the most operands.
     pub fn bounds(&self) -> (usize, Option<usize>) {
         let sum = |(least, most): (usize, Option<usize>), operand: &Operand| match operand.count {
@@ -210,7 +216,7 @@ pub fn all_switches() -> Vec<Switch> {
 
 #[cfg(test)]
 mod tests {
-    use super::{all_switches, Count, COMMANDS, HELP, OPERANDS, VERSION};
+    use super::{all_switches, Count, COMMANDS, HELP, JSON_LINES, OPERANDS, VERSION};
 
     /// The parser takes operands by their place, so only the last may stand
     /// several times or not at all.
@@ -247,6 +253,15 @@ mod tests {
         }
         for alone in [HELP, VERSION] {
             assert!(alone.value.is_none());
+        }
+    }
+
+    #[test]
+    fn keys_go_with_the_option_for_json() {
+        for command in &COMMANDS {
+            let mut switches = command.switches.iter();
+            let prints_json = switches.any(|switch| switch.long == JSON_LINES.long);
+            assert_eq!(command.keys().count() > 0, prints_json, "{}", command.name);
         }
     }
 

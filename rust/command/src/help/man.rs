@@ -1,8 +1,8 @@
 //! The man page, in roff.
 
 use crate::description::{
-    all_switches, Count, Operand, SubCommand, Switch, COMMANDS, JSON, NAME, OPERANDS, STATUSES,
-    SUMMARY,
+    all_switches, Count, Operand, SubCommand, Switch, COMMANDS, JSON_LINES, NAME, OPERANDS,
+    STATUSES, SUMMARY,
 };
 
 /// What the command is for, in paragraphs.
@@ -12,6 +12,10 @@ const ABOUT: [&str; 2] = [
     "barfigol takes a table and a reading (strict, Kleene or relational) and gives a table with the same solutions in which no term is undefined. \
      Number and record of a refusal are those of the proved library.",
 ];
+
+/// Where to read on.
+const PAGES: &str = "TABLE.md describes the table, the kinds of nodes and the refusals, READINGS.md helps to choose a reading, and PLACEMENT.md goes through an example. \
+     They are installed in the folder share/doc/barfigol beside the folder bin of the command.";
 
 /// The man page `barfigol.1`.
 pub fn page() -> String {
@@ -28,9 +32,6 @@ pub fn page() -> String {
     let statuses = STATUSES
         .iter()
         .map(|(status, text)| entry(&bold(*status as u8), text));
-    let keys = JSON
-        .iter()
-        .map(|(key, text)| entry(&bold(plain(key)), text));
     [
         format!(".TH {title} 1 \"\" \"{NAME} {version}\" \"User Commands\"\n"),
         format!(".SH NAME\n{NAME} \\- {}\n", plain(SUMMARY)),
@@ -42,10 +43,30 @@ pub fn page() -> String {
         String::from("A value is the next word, or follows an equals sign.\n"),
         switches,
         format!(".SH EXIT STATUS\n{}", statuses.collect::<String>()),
-        format!(".SH JSON\nThe keys of an object, in this order:\n{}", keys.collect::<String>()),
+        json(),
         examples(),
+        format!(".SH SEE ALSO\n{}", paragraphs(&[PAGES])),
     ]
     .concat()
+}
+
+/// The keys of the objects of each sub-command that prints them.
+fn json() -> String {
+    let mut section = String::from(".SH JSON\n");
+    for command in &COMMANDS {
+        let keys: String = command
+            .keys()
+            .map(|key| entry(&bold(plain(key.name)), key.text))
+            .collect();
+        if !keys.is_empty() {
+            let switch = bold(plain(&JSON_LINES.word()));
+            let name = command.name;
+            section.push_str(&format!(
+                "The keys of an object of \\fB{name}\\fR {switch}, in this order:\n{keys}.PP\n"
+            ));
+        }
+    }
+    section
 }
 
 fn synopsis() -> String {

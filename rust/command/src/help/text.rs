@@ -1,8 +1,7 @@
 //! The texts of `--help`.
 
 use crate::description::{
-    all_switches, Operand, SubCommand, Switch, COMMANDS, HELP, JSON, JSON_LINES, NAME, OPERANDS,
-    STATUSES, SUMMARY,
+    all_switches, Operand, SubCommand, Switch, COMMANDS, HELP, NAME, OPERANDS, STATUSES, SUMMARY,
 };
 use crate::status::Status;
 
@@ -45,12 +44,8 @@ pub fn of(command: &SubCommand) -> String {
     let switches = command.switches.iter().chain([&HELP]);
     text.push_str(&section("Operands", command.operands.iter().map(operand)));
     text.push_str(&section("Options", switches.map(switch)));
-    if command
-        .switches
-        .iter()
-        .any(|switch| switch.long == JSON_LINES.long)
-    {
-        let keys = JSON.iter().map(|(key, text)| (key.to_string(), *text));
+    if command.keys().next().is_some() {
+        let keys = command.keys().map(|key| (key.name.to_string(), key.text));
         text.push_str(&section("Keys of JSON, in this order", keys));
     }
     text.push_str(&section("Exit status", command.statuses.iter().map(status)));

@@ -8,7 +8,8 @@ use crate::description::{
 };
 use std::path::PathBuf;
 
-/// The budget of `readings` if none is given: a second or so for most tables.
+/// The budget of `readings` if none is given: a second or so for most tables. The
+/// library checks the table at each assignment, so the longest take a minute.
 const BUDGET_OF_READINGS: u32 = 1_000_000;
 
 /// Where something is read from.
