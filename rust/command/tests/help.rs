@@ -205,8 +205,9 @@ fn completed(line: &[&str]) -> Vec<String> {
 const READINGS: [&str; 3] = ["kleene", "relational", "strict"];
 const FILES: [&str; 2] = ["a b", "p4.table"];
 
-/// Lines, and the words that can stand at their end.
-const COMPLETED: [(&[&str], &[&str]); 19] = [
+/// Lines, and the words that can stand at their end. bash makes a word of an
+/// equals sign.
+const COMPLETED: [(&[&str], &[&str]); 22] = [
     (&["barfigol", "ch"], &["check"]),
     (&["barfigol", "--v"], &["--version"]),
     (&["barfigol", "list", ""], &READINGS),
@@ -219,6 +220,10 @@ const COMPLETED: [(&[&str], &[&str]); 19] = [
     (&["barfigol", "evaluate", "--budget", ""], &[]),
     (&["barfigol", "evaluate", "--budget", "6", ""], &READINGS),
     (
+        &["barfigol", "evaluate", "--budget", "=", "6", ""],
+        &READINGS,
+    ),
+    (
         &["barfigol", "evaluate", "-q", "strict", "p"],
         &["p4.table"],
     ),
@@ -228,6 +233,11 @@ const COMPLETED: [(&[&str], &[&str]); 19] = [
     ),
     (
         &["barfigol", "evaluate", "strict", "-", "--assignments", "p"],
+        &["p4.table"],
+    ),
+    (&["barfigol", "evaluate", "--assignments", "="], &FILES),
+    (
+        &["barfigol", "evaluate", "--assignments", "=", "p"],
         &["p4.table"],
     ),
     (

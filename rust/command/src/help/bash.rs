@@ -15,6 +15,8 @@ pub fn script() -> String {
         String::from("    mapfile -t COMPREPLY < <(compgen -f -- \"$word\")\n}\n"),
         format!("_{NAME}() {{\n    local word=${{COMP_WORDS[COMP_CWORD]}} before=${{COMP_WORDS[COMP_CWORD-1]}}\n"),
         String::from("    local command= place=0 at\n    COMPREPLY=()\n"),
+        String::from("    # An option, its equals sign and its value are three words here.\n"),
+        String::from("    if [[ $word == = ]]; then word=; elif [[ $before == = ]]; then before=${COMP_WORDS[COMP_CWORD-2]}; fi\n"),
         place(),
         values(),
         format!("    if [[ -z $command ]]; then\n        _{NAME}_words '{first}'\n        return\n    fi\n"),
@@ -33,7 +35,7 @@ fn place() -> String {
     format!(
         "    for ((at = 1; at < COMP_CWORD; at++)); do
         case ${{COMP_WORDS[at]}} in
-            {takers}) at=$((at + 1)) ;;
+            {takers}) [[ ${{COMP_WORDS[at+1]}} == = ]] && at=$((at + 1)); at=$((at + 1)) ;;
             -[!0-9]*) ;;
             *) if [[ -z $command ]]; then command=${{COMP_WORDS[at]}}; else place=$((place + 1)); fi ;;
         esac
