@@ -19,15 +19,9 @@ const FIRST_BYTE: i32 = (WIDTH - BYTE * ROW_BYTES as i32) / 2;
 const NODE: usize = 6;
 
 /// Numbers of a record, and nodes.
-const NUMBERS: Paint = Paint {
-    fill: "#eee5ff",
-    frame: "#6639ba",
-};
+const NUMBERS: Paint = Paint::new("#eee5ff", "#6639ba");
 /// The kind, and constraints.
-const KIND: Paint = Paint {
-    fill: "#fff3c4",
-    frame: "#9a6700",
-};
+const KIND: Paint = Paint::new("#fff3c4", "#9a6700");
 
 /// The fields of a record: name, how it is kept, bytes and paint.
 const FIELDS: [(&str, &str, i32, Paint); 5] = [

@@ -16,31 +16,23 @@ pub struct Paint {
     pub frame: &'static str,
 }
 
+impl Paint {
+    /// The colour inside, and that of the frame.
+    pub const fn new(fill: &'static str, frame: &'static str) -> Paint {
+        Paint { fill, frame }
+    }
+}
+
 /// A table or a number.
-pub const PLAIN: Paint = Paint {
-    fill: "#ffffff",
-    frame: "#8c959f",
-};
+pub const PLAIN: Paint = Paint::new("#ffffff", "#8c959f");
 /// What is true, and what is solved.
-pub const GOOD: Paint = Paint {
-    fill: "#d3f2da",
-    frame: "#1a7f37",
-};
+pub const GOOD: Paint = Paint::new("#d3f2da", "#1a7f37");
 /// What is false.
-pub const FALSE: Paint = Paint {
-    fill: "#e4e7eb",
-    frame: "#6e7781",
-};
+pub const FALSE: Paint = Paint::new("#e4e7eb", "#6e7781");
 /// What is undefined.
-pub const UNDEFINED: Paint = Paint {
-    fill: "#ffdfb0",
-    frame: "#b35900",
-};
+pub const UNDEFINED: Paint = Paint::new("#ffdfb0", "#b35900");
 /// The command.
-pub const TOOL: Paint = Paint {
-    fill: "#dcebff",
-    frame: "#0550ae",
-};
+pub const TOOL: Paint = Paint::new("#dcebff", "#0550ae");
 
 /// Where a text stands beside its place.
 #[derive(Clone, Copy)]
@@ -62,30 +54,26 @@ pub struct Font {
     pub colour: &'static str,
 }
 
+impl Font {
+    const fn plain(size: i32, colour: &'static str) -> Font {
+        let bold = false;
+        Font { size, bold, colour }
+    }
+
+    const fn bold(size: i32, colour: &'static str) -> Font {
+        let bold = true;
+        Font { size, bold, colour }
+    }
+}
+
 /// A title of a picture or of a part.
-pub const TITLE: Font = Font {
-    size: 16,
-    bold: true,
-    colour: INK,
-};
+pub const TITLE: Font = Font::bold(16, INK);
 /// The words in a box.
-pub const WORDS: Font = Font {
-    size: 14,
-    bold: false,
-    colour: INK,
-};
+pub const WORDS: Font = Font::plain(14, INK);
 /// The words that matter most in a box.
-pub const STRONG: Font = Font {
-    size: 14,
-    bold: true,
-    colour: INK,
-};
+pub const STRONG: Font = Font::bold(14, INK);
 /// A remark.
-pub const REMARK: Font = Font {
-    size: 12,
-    bold: false,
-    colour: FAINT,
-};
+pub const REMARK: Font = Font::plain(12, FAINT);
 
 /// A box: its left upper corner, its width and its height.
 #[derive(Clone, Copy)]

@@ -36,37 +36,36 @@ fn as_it_is(drawing: &mut Drawing, y: i32, table: &Table) {
 /// All solvers get the same table, in which there is nothing to read in two ways.
 fn translated_first(drawing: &mut Drawing, y: i32, table: &Table, out: &Table) {
     let from = old_table(drawing, y, table);
-    let tool = middle_row(y, 232, 180);
-    drawing.arrow(from.right(), tool.left());
     let reading = format!("reading: {CHOSEN}");
-    let lines = [
-        (STRONG, "barfigol translate"),
-        (WORDS, reading.as_str()),
-        (REMARK, "you choose it"),
-    ];
-    drawing.note(tool, TOOL, &lines);
+    let tool = middle_row(y, 232, 180);
+    let texts = ["barfigol translate", &reading, "you choose it"];
+    drawing.arrow(from.right(), tool.left());
+    note(drawing, tool, TOOL, texts);
     let new = middle_row(y, 450, 150);
+    let texts = ["new table", &records(out), "nothing undefined"];
     drawing.arrow(tool.right(), new.left());
-    let records = format!("{} records", out.records());
-    let lines = [
-        (STRONG, "new table"),
-        (WORDS, records.as_str()),
-        (REMARK, "nothing undefined"),
-    ];
-    drawing.note(new, GOOD, &lines);
+    note(drawing, new, GOOD, texts);
     to_solvers(drawing, y, new, out);
 }
 
 fn old_table(drawing: &mut Drawing, y: i32, table: &Table) -> Area {
     let area = middle_row(y, 24, 160);
-    let records = format!("{} records", table.records());
-    let lines = [
-        (STRONG, "your table"),
-        (WORDS, records.as_str()),
-        (REMARK, "a term is undefined"),
-    ];
-    drawing.note(area, UNDEFINED, &lines);
+    let texts = ["your table", &records(table), "a term is undefined"];
+    note(drawing, area, UNDEFINED, texts);
     area
+}
+
+/// A box with what it is, more about it, and a remark.
+fn note(drawing: &mut Drawing, area: Area, paint: Paint, [what, more, remark]: [&str; 3]) {
+    drawing.note(
+        area,
+        paint,
+        &[(STRONG, what), (WORDS, more), (REMARK, remark)],
+    );
+}
+
+fn records(table: &Table) -> String {
+    format!("{} records", table.records())
 }
 
 /// A box in the middle of the two solvers' height.
