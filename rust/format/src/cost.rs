@@ -1,6 +1,6 @@
 //! The steps of a table, to tell beforehand which ones are cheap to evaluate.
 
-use crate::builder::{Node, Table};
+use crate::{Node, Table};
 
 /// The steps of all constraints, cut down to the largest `u128`. A number that
 /// names nothing adds none.

@@ -37,6 +37,7 @@ pub mod kinds;
 pub mod limits;
 mod meaning;
 mod names;
+mod node;
 mod order;
 pub mod printable;
 mod row;
@@ -44,8 +45,9 @@ mod show;
 pub mod words;
 
 pub use assemble::{assemble, AssembleError, Problem};
-pub use builder::{Array, Element, Node, Slot, Table, Variable};
+pub use builder::{Array, Element, Slot, Table, Variable};
 pub use kinds::Type;
 pub use meaning::title;
+pub use node::Node;
 pub use row::{bytes_of, hex, pretty, rest_of, rows_of, Row, ROW_BYTES};
 pub use show::show;
