@@ -8,7 +8,6 @@
 #![warn(missing_docs)]
 
 mod description;
-mod domains;
 mod explain;
 mod help;
 mod input;

@@ -1,5 +1,6 @@
 //! The builder of tables.
 
+use crate::assignments::{self, Assignments};
 use crate::kinds::Type;
 use crate::node::Node;
 use crate::row::{bytes_of, rows_of, Row};
@@ -22,6 +23,14 @@ pub struct Slot {
     pub first: i32,
     /// The last value.
     pub last: i32,
+}
+
+impl Slot {
+    /// How many values there are.
+    pub fn values(self) -> u32 {
+        let values = i64::from(self.last) - i64::from(self.first) + 1;
+        u32::try_from(values.max(0)).unwrap_or(u32::MAX)
+    }
 }
 
 /// An element of an array.
@@ -178,22 +187,21 @@ impl Table {
         rows
     }
 
-    /// All assignments, the last variable changing fastest. Domains are taken
-    /// to be small.
-    pub fn assignments(&self) -> Vec<Vec<i32>> {
-        let mut all = vec![Vec::new()];
-        for variable in &self.variables {
-            let longer = |start: &Vec<i32>| {
-                let start = start.clone();
-                (variable.low..=variable.high).map(move |value| {
-                    let mut next = start.clone();
-                    next.push(value);
-                    next
-                })
-            };
-            all = all.iter().flat_map(longer).collect();
-        }
-        all
+    /// All assignments, the last variable changing fastest.
+    ///
+    /// ```
+    /// let table = barfigol_format::Table::new().variable(3, 4).bool_variable();
+    /// let all: Vec<Vec<i32>> = table.assignments().collect();
+    /// assert_eq!(all, [[3, 0], [3, 1], [4, 0], [4, 1]]);
+    /// ```
+    pub fn assignments(&self) -> Assignments {
+        Assignments::of(&self.variables)
+    }
+
+    /// How many assignments there are, or nothing where they are too many for
+    /// 128 bits.
+    pub fn assignment_count(&self) -> Option<u128> {
+        assignments::count(&self.variables)
     }
 
     /// The bytes of the table.

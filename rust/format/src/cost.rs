@@ -42,8 +42,5 @@ fn slot_values(table: &Table, node: Node) -> u128 {
     };
     let place = usize::try_from(number).ok();
     let slot = place.and_then(|place| table.slots.get(place));
-    slot.map_or(0, |slot| {
-        let values = i64::from(slot.last) - i64::from(slot.first) + 1;
-        values.max(0) as u128
-    })
+    slot.map_or(0, |slot| slot.values().into())
 }

@@ -55,7 +55,7 @@ fn interval(table: &Table, before: &[Interval], node: Node) -> Option<Interval> 
         15 => hull(table, x)?,
         17 => {
             let (low, high) = of(y)?;
-            let count = count(slot(table, x)?);
+            let count = i64::from(slot(table, x)?.values());
             (low * count, high * count)
         }
         _ => (0, 0),
@@ -90,10 +90,6 @@ fn domain(table: &Table, number: i32) -> Option<Interval> {
 
 fn slot(table: &Table, number: i32) -> Option<Slot> {
     table.slots.get(usize::try_from(number).ok()?).copied()
-}
-
-fn count(slot: Slot) -> i64 {
-    (i64::from(slot.last) - i64::from(slot.first) + 1).max(0)
 }
 
 fn range(slot: Slot) -> Interval {

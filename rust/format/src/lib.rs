@@ -27,6 +27,7 @@
 #![warn(missing_docs)]
 
 mod assemble;
+mod assignments;
 mod before;
 mod builder;
 pub mod cost;
@@ -45,6 +46,7 @@ mod show;
 pub mod words;
 
 pub use assemble::{assemble, AssembleError, Problem};
+pub use assignments::Assignments;
 pub use builder::{Array, Element, Slot, Table, Variable};
 pub use kinds::Type;
 pub use meaning::title;

@@ -33,12 +33,11 @@ pub fn steps(table: &Table) -> u32 {
 
 /// The assignments that are solutions.
 pub fn solutions(reading: Reading, table: &Table) -> Vec<Vec<i32>> {
-    let mut all = table.assignments();
-    all.retain(|values| {
+    let solves = |values: &Vec<i32>| {
         let verdicts = verdicts(reading, table, values);
         verdicts.iter().all(|&verdict| verdict == Verdict::True)
-    });
-    all
+    };
+    table.assignments().filter(solves).collect()
 }
 
 /// A table's translation.

@@ -188,6 +188,6 @@ impl dyn Calls + '_ {
             let found = found.expect("a sound table");
             found.iter().all(|&verdict| verdict == 1)
         };
-        table.assignments().into_iter().filter(solves).collect()
+        table.assignments().filter(solves).collect()
     }
 }

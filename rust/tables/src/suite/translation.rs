@@ -53,7 +53,7 @@ fn compared(
         "the check refuses the translation\n{}",
         pretty(&out)
     );
-    let all = table.assignments();
+    let all: Vec<Vec<i32>> = table.assignments().collect();
     let steps = cost::steps(table).max(cost::steps(&Table::read(&out)));
     if steps.saturating_mul(all.len() as u128) > MOST_STEPS {
         return Ok(());
@@ -204,7 +204,7 @@ fn the_readings_agree_where_they_must(calls: &dyn Calls) {
     // Kleene's, and one that is defined under Kleene is the relational one.
     let mut differ = [0u64; 2];
     for_random_tables(calls, 35, &Plan::MIDDLE, rounds(5_000), &mut |table| {
-        let all = table.assignments();
+        let all: Vec<Vec<i32>> = table.assignments().collect();
         if cost::steps(table).saturating_mul(all.len() as u128) > MOST_STEPS {
             return Ok(());
         }

@@ -4,7 +4,6 @@ mod look;
 mod told;
 
 use super::{explained, table_of};
-use crate::domains::Assignments;
 use crate::explain::Call;
 use crate::output::Output;
 use crate::status::{Status, Stop};
@@ -41,22 +40,21 @@ fn go_through(
     report: Report,
     out: &mut Output,
 ) -> Result<(), Stop> {
-    let mut assignments = Assignments::of(model);
-    while !model.constraints.is_empty() {
-        let values = match assignments.next() {
-            Some(values) => values,
-            None => break,
-        };
+    if model.constraints.is_empty() {
+        look.is_complete = true;
+        return Ok(());
+    }
+    for values in model.assignments() {
         if !look.has_room() || out.is_gone() {
             return Ok(());
         }
         let said = Reading::ALL.map(|reading| {
-            let found = barfigol::evaluate(reading, table, values, u32::MAX);
+            let found = barfigol::evaluate(reading, table, &values, u32::MAX);
             found.map(|found| found.verdicts)
         });
         let parting = look.take(&said);
         if report == Report::Text {
-            out.text(&told::at(values, &said, &parting))?;
+            out.text(&told::at(&values, &said, &parting))?;
         }
     }
     look.is_complete = true;

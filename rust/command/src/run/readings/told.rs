@@ -1,7 +1,6 @@
 //! What a look found, in words.
 
 use super::look::{words, Look, Said, Word};
-use crate::domains::Size;
 use barfigol::Reading;
 use barfigol_format::words::numbered;
 use barfigol_format::Table;
@@ -52,7 +51,11 @@ fn extent(model: &Table, look: &Look) -> String {
     if model.constraints.is_empty() {
         return String::from("there is no constraint\n");
     }
-    let all = format!("looked at {} of {}", look.looked, Size::of(model));
+    let size = match model.assignment_count() {
+        Some(count) => numbered(count, "assignment"),
+        None => String::from("more than 2^128 assignments"),
+    };
+    let all = format!("looked at {} of {size}", look.looked);
     if look.is_complete {
         return format!("{all}\n");
     }
