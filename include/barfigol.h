@@ -4,7 +4,8 @@
  * barfigol. The library is compiled for Linux on x86-64 and for nothing else.
  *
  * A table is a run of records of 12 bytes: mark (2 ASCII letters), kind, aux, x and y (signed 32 bits, low
- * byte first). Records are numbered from 0. docs/TABLE.md describes the table in full.
+ * byte first). Records are numbered from 0. TABLE.md, in docs/ or installed in share/doc/barfigol, describes the
+ * table in full.
  *
  * What holds for every call:
  *   - Its answer, and every byte it writes, depend on its arguments and the bytes they lend, and on nothing
