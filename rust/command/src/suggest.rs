@@ -3,7 +3,7 @@
 /// The closest of some words, if one is close: the mistyped word begins it, or
 /// a few letters are wrong, left out, too many or changed places. Case does not
 /// matter.
-pub fn closest<'a>(word: &str, among: impl IntoIterator<Item = &'a str>) -> Option<&'a str> {
+fn closest<'a>(word: &str, among: impl IntoIterator<Item = &'a str>) -> Option<&'a str> {
     let typed: Vec<char> = word.to_lowercase().chars().collect();
     let most = typed.len() / 3;
     let mut best: Option<(usize, &str)> = None;
@@ -22,7 +22,7 @@ pub fn closest<'a>(word: &str, among: impl IntoIterator<Item = &'a str>) -> Opti
     best.map(|(_, candidate)| candidate)
 }
 
-/// The question that stands behind a complaint, or nothing.
+/// The question that stands behind a complaint about a word, or nothing.
 pub fn question<'a>(word: &str, among: impl IntoIterator<Item = &'a str>) -> String {
     closest(word, among).map_or(String::new(), |meant| format!(": did you mean '{meant}'?"))
 }

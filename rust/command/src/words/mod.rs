@@ -7,9 +7,9 @@ mod split;
 pub use operands::value;
 pub use request::{Assignments, Evaluate, Page, Report, Request, Shell, Source, Target};
 
-use crate::description::{self, all_switches, command, SubCommand, COMMANDS, HELP, VERSION};
+use crate::description::{all_switches, command, SubCommand, Switch, COMMANDS, HELP, VERSION};
 use crate::printable::quoted;
-use crate::suggest::{closest, question};
+use crate::suggest::question;
 use split::{is_switch, Split};
 use std::ffi::{OsStr, OsString};
 
@@ -73,10 +73,7 @@ fn no_command(word: &OsStr) -> String {
 }
 
 /// The question that stands behind a wrong option.
-fn meant(typed: &str, among: &[description::Switch]) -> String {
-    let words: Vec<&str> = among.iter().map(|switch| switch.long).collect();
-    match closest(typed.trim_start_matches('-'), words) {
-        Some(word) => format!(": did you mean '--{word}'?"),
-        None => String::new(),
-    }
+fn meant(typed: &str, among: &[Switch]) -> String {
+    let words: Vec<String> = among.iter().map(Switch::word).collect();
+    question(typed, words.iter().map(String::as_str))
 }

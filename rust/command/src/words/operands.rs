@@ -3,7 +3,7 @@
 use super::{Shell, Source, Target};
 use crate::description::{READINGS, SHELLS};
 use crate::printable::quoted;
-use crate::suggest::{closest, question};
+use crate::suggest::question;
 use barfigol::Reading;
 use std::ffi::OsStr;
 use std::path::PathBuf;
@@ -14,13 +14,11 @@ pub fn choice(word: &OsStr) -> Result<u32, String> {
     let text = word.to_str().unwrap_or("");
     let named = text.parse().map(Reading::number).ok();
     named.or_else(|| text.parse().ok()).ok_or_else(|| {
-        let shown = quoted(word);
-        match closest(text, READINGS) {
-            Some(meant) => format!("{shown} is no reading: did you mean '{meant}'?"),
-            None => {
-                format!("{shown} is no reading: strict, kleene, relational or a number of 32 bits")
-            }
-        }
+        let hint = match question(text, READINGS) {
+            none if none.is_empty() => ": strict, kleene, relational or a number of 32 bits".into(),
+            question => question,
+        };
+        format!("{} is no reading{hint}", quoted(word))
     })
 }
 
