@@ -3,7 +3,8 @@
 
 mod common;
 
-use common::{assert_done, assert_misused, example, run, Ran, COMMAND};
+use barfigol_format::{Node, Table};
+use common::{assert_done, assert_misused, example, run, run_with, Ran, COMMAND};
 use std::process::Command;
 
 /// The sub-commands, with a word of what each takes.
@@ -85,6 +86,36 @@ fn help_about_one_command() {
     assert_misused(&run(&["help", "solve"]), "'solve' is no command");
     assert_misused(&run(&["help", "check", "list"]), "'list' is one too many");
     assert_misused(&run(&["help", "check", "--man"]), "exclude each other");
+}
+
+/// The number between two parts of a text.
+fn number_between(text: &str, before: &str, after: &str) -> u64 {
+    let rest = text.split(before).nth(1).expect(before);
+    let number = rest.split(after).next().unwrap_or("");
+    number.parse().expect(number)
+}
+
+/// What the help says of the budget of readings and of the longest file that is
+/// shown is what the command does.
+#[test]
+fn the_numbers_of_the_help() {
+    let in_one_line = |name: &str| {
+        let help = printed(&["help", name]);
+        help.split_whitespace().collect::<Vec<_>>().join(" ")
+    };
+    let table = Table::new()
+        .variable(i32::MIN, i32::MAX)
+        .slot(1, 10_000)
+        .nodes(&[Node::truth(1), Node::forall(0, 0)])
+        .constraint(1);
+    let cut_off = run_with(&["readings", "-"], &table.bytes()).out;
+    let budget = number_between(&cut_off, "the budget is ", "\n");
+    let help = in_one_line("readings");
+    assert!(help.contains(&format!(" and {budget} for readings.")));
+    let longer = run(&["show", "/dev/zero"]).err;
+    let most = number_between(&longer, "it is longer than ", " bytes");
+    let help = in_one_line("show");
+    assert!(help.contains(&format!(" of at most {most} bytes,")));
 }
 
 #[test]
