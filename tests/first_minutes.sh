@@ -47,7 +47,7 @@ play() { # NAME, the script on standard input
     chmod +x "$made/bin/$1"
 }
 
-# The commands of the machine that the scripts may use, and the players: rt waits after each crate until its progress is told.
+# The commands of the machine that the scripts may use, and the players.
 make_path() {
     mkdir "$made/bin"
     for name in awk cat chmod cmp cp cut date dirname find flock grep head id ln mkdir mktemp readlink rm sed sh sleep sort tail touch tr uname wc; do
@@ -68,6 +68,11 @@ END
     for name in objdump c++ pkg-config; do
         play "$name" </dev/null
     done
+    play_rt
+}
+
+# rt waits after each crate until its progress is told.
+play_rt() {
     play rt <<'END'
 #!/bin/sh
 # Prints a line, and ends where it is not told within ten seconds.
