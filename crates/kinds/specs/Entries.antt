@@ -1,7 +1,8 @@
 -- The entries of the code's table of kinds, as numbers, from the table of kinds of document 01.
 -- Internal: a contract behind the public ones; no public promise cites it.
-use Prim.Native.Nat.{ℕ, _+_, _*_}
+use Prim.Native.Nat.{ℕ}
 use mathlib.Core.Bool.{cond}
+use mathlib.Core.List.{List, [], _∷_, _++_}
 use mathlib.Core.Option.{Option, none, some}
 use lib.Dec.{ltb}
 use Rattle.language.specs.Syntax as Syntax
@@ -57,9 +58,14 @@ unfoldable pub bindsOf : Option Kinds.Kind → ℕ
 bindsOf none = 0
 bindsOf (some k) = bindsIn (k .fieldX) (k .fieldY)
 
--- an entry of the code's table, a byte to each part: both operands, what the kind yields, and whether it binds a slot
-unfoldable pub entryOf : Option Kinds.Kind → ℕ
-entryOf k = codeX k + (256 * codeY k + (65_536 * tagOf k + 16_777_216 * bindsOf k))
+-- an entry of the code's table, four numbers: what x holds, what y holds, what the kind yields, whether it binds a slot
+unfoldable pub entryOf : Option Kinds.Kind → List ℕ
+entryOf k = codeX k ∷ codeY k ∷ tagOf k ∷ bindsOf k ∷ []
+
+-- the entries one behind the other
+unfoldable pub entriesOf : List (Option Kinds.Kind) → List ℕ
+entriesOf [] = []
+entriesOf (k ∷ ks) = entryOf k ++ entriesOf ks
 
 -- the row of a kind number: row 0 where there is none
 unfoldable pub rowOf : ℕ → ℕ

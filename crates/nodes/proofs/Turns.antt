@@ -3,7 +3,7 @@ use mathlib.Core.Path.{_≡_, refl, sym, ap, _∙_}
 use mathlib.Core.Bool.{Bool, true, false}
 use mathlib.Core.List.{List, [], _∷_, map}
 use mathlib.Core.Option.{Option, none, some}
-use Prim.Native.Nat.{ℕ, zero, suc, _+_, _*_, _-_, _/_, _%_, _≤_, _<_}
+use Prim.Native.Nat.{ℕ, zero, suc, _+_, _*_, _-_, _≤_, _<_}
 use mathlib.Core.Logic.{_⊎_, ⊎-elim}
 use native.Mathlib.Nat.{add-zero, not-suc-le-zero, le-of-suc-le-suc, eq-or-lt-of-le}
 use native.Mathlib.Numerals.{add-one}
@@ -15,13 +15,13 @@ use lib.Seq.{getD-drop, drop-drop, getD-set-same, getD-set-other}
 use Rattle.table.specs.Records.{AR, recordSize, recordCount, wordAt, marked, yAt, signed}
 use Rattle.language.specs.Syntax.{boolean, integer}
 use Rattle.table.specs.Kinds.{Field, unused, anyNumber, truthValue, variableNumber, slotNumber, arrayNumber, nodeNumber, Kind, kinds, kindOf}
-use Rattle.kinds.specs.Entries.{codeOf, codeX, codeY, tagOf, bindsOf, entryOf, rowOf}
-use Rattle.kinds.proofs.Columns.{row-within, at-row, tagOf-small, entry-x, entry-y, entry-yields, entry-binds}
+use Rattle.kinds.specs.Entries.{codeOf, codeX, codeY, tagOf, bindsOf, entriesOf, rowOf}
+use Rattle.kinds.proofs.Columns.{row-within, x-at-row, y-at-row, yields-at-row, binds-at-row}
 use Rattle.answers.specs.Sections.{arraysFrom, arraysAt, arrayRecords, behindArray, nodeCount}
 use Rattle.answers.proofs.RunEnds.{arrays-on}
 use Rattle.nodes.specs.Facts.{basesOf, limitsOf, placeOf}
 use Rattle.nodes.specs.Known.{NodeFact, Known}
-use Rattle.nodes.proofs.Operands.{operand}
+use Rattle.nodes.proofs.Operands.{tag-small, operand}
 
 -- ---- arrays
 
@@ -134,24 +134,27 @@ module _ (bs : List ℕ) (n : ℕ) (facts : List ℕ) (known : Known bs n facts)
 
 -- what is read out of the entry of a node's kind
 module _ {l : List ℕ} {row kind number : ℕ} where
-  entry-at : l ≡ map entryOf kinds → row ≡ rowOf kind → kind ≡ number → getD l row 0 ≡ entryOf (kindOf number)
-  entry-at el er ek = rw (el, er) (at-row entryOf kind 0 ∙ ap (λ (m : ℕ). entryOf (kindOf m)) ek)
+  part-at : (j : ℕ) (part : Option Kind → ℕ) → ((n : ℕ) → getD (entriesOf kinds) (4 * rowOf n + j) 0 ≡ part (kindOf n))
+      → l ≡ entriesOf kinds → row ≡ rowOf kind → kind ≡ number → getD l (4 * row + j) 0 ≡ part (kindOf number)
+  part-at j part at-row el er ek = rw (el, er) (at-row kind ∙ ap (λ (m : ℕ). part (kindOf m)) ek)
 
-  pub x-coded : {v : ℕ} → v ≡ getD l row 0 % 256 → l ≡ map entryOf kinds → row ≡ rowOf kind → kind ≡ number → v ≡ codeX (kindOf number)
-  x-coded ev el er ek = ev ∙ ap (_% 256) (entry-at el er ek) ∙ entry-x (kindOf number)
+  pub x-coded : l ≡ entriesOf kinds → row ≡ rowOf kind → kind ≡ number → getD l (4 * row + 0) 0 ≡ codeX (kindOf number)
+  x-coded = part-at 0 codeX x-at-row
 
-  pub y-coded : {v : ℕ} → v ≡ getD l row 0 / 256 % 256 → l ≡ map entryOf kinds → row ≡ rowOf kind → kind ≡ number → v ≡ codeY (kindOf number)
-  y-coded ev el er ek = ev ∙ ap (λ e. e / 256 % 256) (entry-at el er ek) ∙ entry-y (kindOf number)
+  pub y-coded : l ≡ entriesOf kinds → row ≡ rowOf kind → kind ≡ number → getD l (4 * row + 1) 0 ≡ codeY (kindOf number)
+  y-coded = part-at 1 codeY y-at-row
 
-  pub yields-coded : {v : ℕ} → v ≡ getD l row 0 / 65_536 % 256 → l ≡ map entryOf kinds → row ≡ rowOf kind → kind ≡ number → v ≡ tagOf (kindOf number)
-  yields-coded ev el er ek = ev ∙ ap (λ e. e / 65_536 % 256) (entry-at el er ek) ∙ entry-yields (kindOf number)
+  pub yields-coded : l ≡ entriesOf kinds → row ≡ rowOf kind → kind ≡ number → getD l (4 * row + 2) 0 ≡ tagOf (kindOf number)
+  yields-coded = part-at 2 tagOf yields-at-row
 
-  pub binds-coded : {v : ℕ} → v ≡ getD l row 0 / 16_777_216 → l ≡ map entryOf kinds → row ≡ rowOf kind → kind ≡ number → v ≡ bindsOf (kindOf number)
-  binds-coded ev el er ek = ev ∙ ap (λ e. e / 16_777_216) (entry-at el er ek) ∙ entry-binds (kindOf number)
+  pub binds-coded : l ≡ entriesOf kinds → row ≡ rowOf kind → kind ≡ number → getD l (4 * row + 3) 0 ≡ bindsOf (kindOf number)
+  binds-coded = part-at 3 bindsOf binds-at-row
 
 -- a kind yields one of two types
 pub small-tag : (o : Option Kind) → tagOf o ≤ 1
-small-tag o = omega (arith, tagOf-small o)
+unfolding tagOf
+small-tag none = omega arith
+small-tag (some k) = tag-small (k .yields)
 
 pub row-small : (kind : ℕ) {row : ℕ} → row ≡ rowOf kind → row < 31
 row-small kind e = rw e (row-within kind)

@@ -13,7 +13,12 @@ ghost use Rattle.answers.specs.Check.{refuse, firstFault, constraintFault};
 ghost use Rattle.verdict.specs.Results.{refusalOf, faultAt};
 ghost use Rattle.nodes.specs.Known.{Arrays, Nodes, NodesChecked, ConstraintAt, Constraints, DeclarationsSound, bodyFault};
 ghost use Rattle.nodes.specs.Facts.{entered, placeOf, looked, isBeyond, joinedOf, madeOf, barred, faultOf};
+use kinds::BINDING;
+use kinds::ENTRY;
 use kinds::TRUTH_VALUE;
+use kinds::X;
+use kinds::Y;
+use kinds::YIELDS;
 use sections::Places;
 use table::NodeNumber;
 use verdict::Check;
@@ -67,16 +72,16 @@ fn look(code: usize, x: u32, limits: &[u64; 11], bases: &[usize; 11], facts: &[u
 }
 
 // The fact of a node from those of its operands: the free slots of both, without the bound slot.
-fn joined(a: u32, b: u32, binds: u32, tag: u32) -> u32
+fn joined(a: u32, b: u32, binds: u8, tag: u8) -> u32
     requires { ⌜ tag ≤ 1 ⌝ }
     ensures { λ r. ⌜ r ≡ joinedOf a b binds tag ⌝ }
 {
     let free = (a / 2) | (b / 2);
     let bound = if binds == 1 { a / 2 } else { 0 };
-    (free & (0xffff_ffff - bound)) * 2 + tag
+    (free & (0xffff_ffff - bound)) * 2 + tag as u32
 }
 
-fn make(aux: u8, x: Looked, y: Looked, binds: u32, tag: u32) -> Made
+fn make(aux: u8, x: Looked, y: Looked, binds: u8, tag: u8) -> Made
     requires { ⌜ tag ≤ 1 ⌝ }
     ensures { λ r. ⌜ r ≡ madeOf (eqb aux 0) x y binds tag ⌝ }
 {
@@ -105,7 +110,7 @@ fn beyond(l: Looked) -> bool
 }
 
 // What is wrong with a node that could not be made: 3 before 4, and 4 before 5.
-fn node_fault(aux: u8, x_code: u32, x: Looked, y_code: u32, y: Looked, p: u32) -> Check
+fn node_fault(aux: u8, x_code: u8, x: Looked, y_code: u8, y: Looked, p: u32) -> Check
     ensures { λ r. ⌜ refusalOf r ≡ refuse (faultOf aux «x_code» x «y_code» y) p ⌝ }
 {
     let bx = beyond(x);
@@ -152,7 +157,7 @@ fn enter_arrays(facts: &mut [u32; 5339], table: &[u8], from: usize, count: usize
     }
 }
 
-fn wide(code: u32) -> usize
+fn wide(code: u8) -> usize
     ensures { λ r. ⌜ r ≡ code ⌝ }
 {
     code as usize
@@ -176,9 +181,8 @@ fn nodes(
         let p = from + n;
         let k = kinds::row(table::kind_at(table, p));
         let aux = table::aux_at(table, p);
-        let entry = kinds[k];
-        let x_code = kinds::x_code(entry);
-        let y_code = kinds::y_code(entry);
+        let x_code = kinds[ENTRY * k + X];
+        let y_code = kinds[ENTRY * k + Y];
         let x = look(
             wide(x_code),
             table::x_bits(table, p),
@@ -193,7 +197,8 @@ fn nodes(
             &bases,
             facts,
         );
-        let made = make(aux, x, y, kinds::binds(entry), kinds::yields(entry));
+        let binds = kinds[ENTRY * k + BINDING];
+        let made = make(aux, x, y, binds, kinds[ENTRY * k + YIELDS]);
         match made {
             Made::Whole(fact) => {
                 facts[NODES + n] = fact;

@@ -1,9 +1,9 @@
 -- The words of a node, one by one.
 use mathlib.Core.Path.{_≡_, sym, ap, _∙_}
-use Prim.Native.Nat.{ℕ, _+_, _*_, _%_, _≤_, _<_}
+use Prim.Native.Nat.{ℕ, _+_, _*_, _≤_, _<_}
 use native.Mathlib.Omega.{arith}
 use mathlib.Core.Bool.{Bool, true, false, cond}
-use mathlib.Core.List.{List, [], _∷_, map}
+use mathlib.Core.List.{List, [], _∷_}
 use borrow.Author.Tests.{lt-ltb}
 use lib.Dec.{ltb}
 use lib.IntN.{pos, natAbs, _+ℤ_, predℤ}
@@ -13,8 +13,8 @@ use Rattle.language.specs.Meaning.{arrayAt}
 use Rattle.rules.specs.Rules.{last}
 use Rattle.table.specs.Records.{signed, bitsOf, recordSize, wordAt, kindAt, xAt, yAt}
 use Rattle.table.specs.Kinds.{kinds, kindOf}
-use Rattle.kinds.specs.Entries.{codeX, entryOf, rowOf}
-use Rattle.kinds.proofs.Columns.{at-row, entry-x}
+use Rattle.kinds.specs.Entries.{codeX, entriesOf, rowOf}
+use Rattle.kinds.proofs.Columns.{x-at-row}
 use Rattle.answers.specs.Sections.{declarations, arrayRecords, arrayOf}
 use Rattle.answers.proofs.Listed.{length-listed}
 use Rattle.answers.proofs.Declared.{arrayAt-declarations}
@@ -57,11 +57,9 @@ not-looked-up A e = rw e
 -- ---- fields
 
 -- The code of a kind's x, read out of the kind's entry.
-pub code-is : {entries : List ℕ} {i k code : ℕ} → code ≡ getD entries i 0 % 256 → entries ≡ map entryOf kinds → i ≡ k → k < 31 → code ≡ codeX (kindOf k)
+pub code-is : {entries : List ℕ} {i k : ℕ} → entries ≡ entriesOf kinds → i ≡ k → k < 31 → getD entries (4 * i + 0) 0 ≡ codeX (kindOf k)
 unfolding rowOf
-code-is {entries} {i} {k} c e f h =
-    let entry : getD entries i 0 ≡ entryOf (kindOf k) = rw (e, f) (ap (λ r. getD (map entryOf kinds) r 0) (sym (rw (lt-ltb k 31 h))) ∙ at-row entryOf k 0) in
-    c ∙ ap (_% 256) entry ∙ entry-x (kindOf k)
+code-is {entries} {i} {k} e f h = rw (e, f) (ap (λ r. getD (entriesOf kinds) (4 * r + 0) 0) (sym (rw (lt-ltb k 31 h))) ∙ x-at-row k)
 
 module _ (bs : List ℕ) (p : ℕ) {w : ℕ} (is-x : w ≡ wordAt bs (12 * p + 4)) where
   -- The number that x names.

@@ -43,88 +43,116 @@ row-requires c κs = search needs
 aux-at-requires : tie.Need-aux-at-requires Inv-loop μ-loop
 aux-at-requires c κs = c .before .before .before .before .before .before .pre .section .within (c .before .before .before .loop .n) (c .before .before .loop-test .taken)
 
-mul-entry : tie.Need-mul-entry Inv-loop μ-loop
-mul-entry c = omega (arith, row-small _ (c .before .row .ensures))
+mul-x-code : tie.Need-mul-x-code Inv-loop μ-loop
+mul-x-code c = omega (arith, row-small _ (c .before .row .ensures))
 
-array-read-entry : tie.Need-array-read-entry Inv-loop μ-loop
-array-read-entry c = row-small _ (c .before .row .ensures)
+add-x-code : tie.Need-add-x-code Inv-loop μ-loop
+add-x-code c = omega (arith, row-small _ (c .before .row .ensures))
 
-x-code-requires : tie.Need-x-code-requires Inv-loop μ-loop
-x-code-requires c κs = search needs
+array-read-x-code : tie.Need-array-read-x-code Inv-loop μ-loop
+array-read-x-code c = omega (arith, row-small _ (c .before .row .ensures))
 
-y-code-requires : tie.Need-y-code-requires Inv-loop μ-loop
-y-code-requires c κs = search needs
+mul-y-code : tie.Need-mul-y-code Inv-loop μ-loop
+mul-y-code c = omega (arith, row-small _ (c .before .row .ensures))
+
+add-y-code : tie.Need-add-y-code Inv-loop μ-loop
+add-y-code c = omega (arith, row-small _ (c .before .row .ensures))
+
+array-read-y-code : tie.Need-array-read-y-code Inv-loop μ-loop
+array-read-y-code c = omega (arith, row-small _ (c .before .row .ensures))
 
 wide-requires : tie.Need-wide-requires Inv-loop μ-loop
 wide-requires c κs = search needs
 
 x-bits-requires : tie.Need-x-bits-requires Inv-loop μ-loop
-x-bits-requires c κs =
-    let l = c .before .before .before .before .before .before .before in
-    l .before .before .before .pre .section .within (l .loop .n) (c .before .before .before .before .before .before .loop-test .taken)
+x-bits-requires c κs = c .before .before .before .before .before .before .before .before .pre .section .within (c .before .before .before .before .before .loop .n) (c .before .before .before .before .loop-test .taken)
 
 look-requires : tie.Need-look-requires Inv-loop μ-loop
 unfolding basesOf
 look-requires c κs =
-    let l = c .before .before .before .before .before .before .before .before .before .before .before in
-    let r = c .before .before .before .before .before .before .before .before in
+    let l = c .before .before .before .before .before .before .before .before .before in
+    let r = c .before .before .before .before .before .before in
     x-look-ok _ (l .loop .n) _ (l .loop .inv .2) (c .before .before .before .x-bits .result) (omega (arith, c .before .before .before .x-bits .ok)) _ (l .loop .inv .1)
-    (c .before .before .before .before .wide .ensures ∙ (x-coded (c .before .before .before .before .before .before .x-code .ensures) (l .before .entries .ensures) (r .row .ensures) (r .before .kind-at .ensures)))
+    (c .before .before .before .before .wide .ensures ∙ (x-coded (l .before .entries .ensures) (r .row .ensures) (r .before .kind-at .ensures)))
 
 wide-requires-2 : tie.Need-wide-requires-2 Inv-loop μ-loop
 wide-requires-2 c κs = search needs
 
 y-bits-requires : tie.Need-y-bits-requires Inv-loop μ-loop
 y-bits-requires c κs =
-    let l = c .before .before .before .before .before .before .before .before .before .before .before .before .before in
-    let r = c .before .before .before .before .before .before .before .before .before .before in
+    let l = c .before .before .before .before .before .before .before .before .before .before .before in
+    let r = c .before .before .before .before .before .before .before .before in
     l .before .before .before .pre .section .within (l .loop .n) (r .before .before .loop-test .taken)
 
 look-requires-2 : tie.Need-look-requires-2 Inv-loop μ-loop
 unfolding basesOf
 look-requires-2 c κs =
-    let l = c .before .before .before .before .before .before .before .before .before .before .before .before .before .before .before .before .before in
-    let r = c .before .before .before .before .before .before .before .before .before .before .before .before .before .before in
+    let l = c .before .before .before .before .before .before .before .before .before .before .before .before .before .before .before in
+    let r = c .before .before .before .before .before .before .before .before .before .before .before .before in
     y-look-ok _ (l .loop .n) _ (l .loop .inv .2) (c .before .before .before .y-bits .result) (omega (arith, c .before .before .before .y-bits .ok)) _ (l .loop .inv .1)
-    (c .before .before .before .before .wide2 .ensures ∙ (y-coded (c .before .before .before .before .before .before .before .before .before .before .before .y-code .ensures) (l .before .entries .ensures) (r .row .ensures) (r .before .kind-at .ensures)))
+    (c .before .before .before .before .wide2 .ensures ∙ (y-coded (l .before .entries .ensures) (r .row .ensures) (r .before .kind-at .ensures)))
 
-binds-requires : tie.Need-binds-requires Inv-loop μ-loop
-binds-requires c κs = search needs
+mul-binds : tie.Need-mul-binds Inv-loop μ-loop
+mul-binds c =
+    let r = c .before .before .before .before .before .before .before .before .before .before .before .before .before in
+    omega (arith, row-small _ (r .row .ensures))
 
-yields-requires : tie.Need-yields-requires Inv-loop μ-loop
-yields-requires c κs = search needs
+add-binds : tie.Need-add-binds Inv-loop μ-loop
+add-binds c =
+    let r = c .before .before .before .before .before .before .before .before .before .before .before .before .before in
+    omega (arith, row-small _ (r .row .ensures))
+
+array-read-binds : tie.Need-array-read-binds Inv-loop μ-loop
+array-read-binds c =
+    let r = c .before .before .before .before .before .before .before .before .before .before .before .before .before in
+    omega (arith, row-small _ (r .row .ensures))
+
+mul-make : tie.Need-mul-make Inv-loop μ-loop
+mul-make c =
+    let r = c .before .before .before .before .before .before .before .before .before .before .before .before .before in
+    omega (arith, row-small _ (r .row .ensures))
+
+add-make : tie.Need-add-make Inv-loop μ-loop
+add-make c =
+    let r = c .before .before .before .before .before .before .before .before .before .before .before .before .before in
+    omega (arith, row-small _ (r .row .ensures))
+
+array-read-make : tie.Need-array-read-make Inv-loop μ-loop
+array-read-make c =
+    let r = c .before .before .before .before .before .before .before .before .before .before .before .before .before in
+    omega (arith, row-small _ (r .row .ensures))
 
 make-requires : tie.Need-make-requires Inv-loop μ-loop
 make-requires c κs =
-    let l = c .before .before .before .before .before .before .before .before .before .before .before .before .before .before .before .before .before .before .before .before in
-    let r = c .before .before .before .before .before .before .before .before .before .before .before .before .before .before .before .before .before in
-    rw (yields-coded (c .yields .ensures) (l .before .entries .ensures) (r .row .ensures) (r .before .kind-at .ensures)) (small-tag _)
+    let l = c .before .before .before .before .before .before .before .before .before .before .before .before .before .before .before .before in
+    let r = c .before .before .before .before .before .before .before .before .before .before .before .before .before in
+    rw (yields-coded (l .before .entries .ensures) (r .row .ensures) (r .before .kind-at .ensures)) (small-tag _)
 
 enum-known-made : tie.Need-enum-known-made Inv-loop μ-loop
 enum-known-made c = search needs
 
 add-facts : tie.Need-add-facts Inv-loop μ-loop
 add-facts c =
-    let l = c .before .before .before .before .before .before .before .before .before .before .before .before .before .before .before .before .before .before .before .before .before .before .before .before in
-    let r = c .before .before .before .before .before .before .before .before .before .before .before .before .before .before .before .before .before .before .before .before .before in
+    let l = c .before .before .before .before .before .before .before .before .before .before .before .before .before .before .before .before .before .before .before .before in
+    let r = c .before .before .before .before .before .before .before .before .before .before .before .before .before .before .before .before .before in
     omega (arith, r .before .before .loop-test .taken, l .before .before .before .pre .counted, l .loop .inv .2 .few-nodes)
 
 mul-facts : tie.Need-mul-facts Inv-loop μ-loop
 mul-facts c =
-    let l = c .before .before .before .before .before .before .before .before .before .before .before .before .before .before .before .before .before .before .before .before .before .before .before .before in
-    let r = c .before .before .before .before .before .before .before .before .before .before .before .before .before .before .before .before .before .before .before .before .before in
+    let l = c .before .before .before .before .before .before .before .before .before .before .before .before .before .before .before .before .before .before .before .before in
+    let r = c .before .before .before .before .before .before .before .before .before .before .before .before .before .before .before .before .before in
     omega (arith, r .before .before .loop-test .taken, l .before .before .before .pre .counted, l .loop .inv .2 .few-nodes)
 
 element-write-facts : tie.Need-element-write-facts Inv-loop μ-loop
 element-write-facts c =
-    let l = c .before .before .before .before .before .before .before .before .before .before .before .before .before .before .before .before .before .before .before .before .before .before .before .before in
-    let r = c .before .before .before .before .before .before .before .before .before .before .before .before .before .before .before .before .before .before .before .before .before in
+    let l = c .before .before .before .before .before .before .before .before .before .before .before .before .before .before .before .before .before .before .before .before in
+    let r = c .before .before .before .before .before .before .before .before .before .before .before .before .before .before .before .before .before in
     omega (arith, r .before .before .loop-test .taken, l .before .before .before .pre .counted, l .loop .inv .2 .few-nodes)
 
 add-limits : tie.Need-add-limits Inv-loop μ-loop
 add-limits c =
-    let l = c .before .before .before .before .before .before .before .before .before .before .before .before .before .before .before .before .before .before .before .before .before .before .before .before in
-    let r = c .before .before .before .before .before .before .before .before .before .before .before .before .before .before .before .before .before .before .before .before .before in
+    let l = c .before .before .before .before .before .before .before .before .before .before .before .before .before .before .before .before .before .before .before .before in
+    let r = c .before .before .before .before .before .before .before .before .before .before .before .before .before .before .before .before .before in
     omega (arith, r .before .before .loop-test .taken, l .before .before .before .pre .counted, l .loop .inv .2 .few-nodes)
 
 array-write-limits : tie.Need-array-write-limits Inv-loop μ-loop
@@ -132,8 +160,8 @@ array-write-limits c = search needs
 
 add-limits-2 : tie.Need-add-limits-2 Inv-loop μ-loop
 add-limits-2 c =
-    let l = c .before .before .before .before .before .before .before .before .before .before .before .before .before .before .before .before .before .before .before .before .before .before .before .before in
-    let r = c .before .before .before .before .before .before .before .before .before .before .before .before .before .before .before .before .before .before .before .before .before in
+    let l = c .before .before .before .before .before .before .before .before .before .before .before .before .before .before .before .before .before .before .before .before in
+    let r = c .before .before .before .before .before .before .before .before .before .before .before .before .before .before .before .before .before in
     omega (arith, r .before .before .loop-test .taken, l .before .before .before .pre .counted, l .loop .inv .2 .few-nodes)
 
 array-write-limits-2 : tie.Need-array-write-limits-2 Inv-loop μ-loop
@@ -144,8 +172,8 @@ enum-told c = search needs
 
 cast-node-fault : tie.Need-cast-node-fault Inv-loop μ-loop
 cast-node-fault c =
-    let l = c .before .before .before .before .before .before .before .before .before .before .before .before .before .before .before .before .before .before .before .before .before .before .before in
-    let r = c .before .before .before .before .before .before .before .before .before .before .before .before .before .before .before .before .before .before .before .before in
+    let l = c .before .before .before .before .before .before .before .before .before .before .before .before .before .before .before .before .before .before .before in
+    let r = c .before .before .before .before .before .before .before .before .before .before .before .before .before .before .before .before in
     omega (arith, l .before .before .before .pre .section .within (l .loop .n) (r .before .before .loop-test .taken), l .before .before .before .pre .section .few)
 
 node-fault-requires : tie.Need-node-fault-requires Inv-loop μ-loop
@@ -154,16 +182,16 @@ node-fault-requires c κs = search needs
 returns : tie.Need-returns Inv-loop μ-loop
 unfolding basesOf
 returns c =
-    let l = c .before .before .before .before .before .before .before .before .before .before .before .before .before .before .before .before .before .before .before .before .before .before .before .before in
-    let r = c .before .before .before .before .before .before .before .before .before .before .before .before .before .before .before .before .before .before .before .before .before in
+    let l = c .before .before .before .before .before .before .before .before .before .before .before .before .before .before .before .before .before .before .before .before in
+    let r = c .before .before .before .before .before .before .before .before .before .before .before .before .before .before .before .before .before in
     let refused : _ = turn-refused _ (l .loop .n) _ (l .loop .inv .2) (ap (λ (q : ℕ). q + l .loop .n) (l .before .before .before .pre .first)) (l .loop .inv .1)
-    (c .before .before .before .before .before .before .before .before .before .before .before .before .before .before .before .before .before .before .before .before .aux-at .ensures) (c .before .before .before .before .before .before .before .before .before .before .before .before .before .before .before .before .x-bits .ensures) (c .before .before .before .before .before .before .before .before .before .before .y-bits .ensures)
-    (omega (arith, c .before .before .before .before .before .before .before .before .before .before .before .before .before .before .before .before .x-bits .ok)) (omega (arith, c .before .before .before .before .before .before .before .before .before .before .y-bits .ok))
-    (x-coded (c .before .before .before .before .before .before .before .before .before .before .before .before .before .before .before .before .before .before .before .x-code .ensures) (l .before .entries .ensures) (r .row .ensures) (r .before .kind-at .ensures))
-    (y-coded (c .before .before .before .before .before .before .before .before .before .before .before .before .before .before .before .before .before .before .y-code .ensures) (l .before .entries .ensures) (r .row .ensures) (r .before .kind-at .ensures))
-    (binds-coded (c .before .before .before .before .before .binds .ensures) (l .before .entries .ensures) (r .row .ensures) (r .before .kind-at .ensures))
-    (yields-coded (c .before .before .before .before .yields .ensures) (l .before .entries .ensures) (r .row .ensures) (r .before .kind-at .ensures))
-    (c .before .before .before .before .before .before .before .before .before .before .before .before .before .before .before .before .before .wide .ensures) (c .before .before .before .before .before .before .before .before .before .before .before .wide2 .ensures) (c .before .before .before .before .before .before .before .before .before .before .before .before .look .ensures) (c .before .before .before .before .before .before .look2 .ensures) (c .before .before .before .make .ensures) (c .before .enum-told .given .1) in
+    (c .before .before .before .before .before .before .before .before .before .before .before .before .before .before .before .before .aux-at .ensures) (c .before .before .before .before .before .before .before .before .before .before .before .before .before .before .x-bits .ensures) (c .before .before .before .before .before .before .before .before .y-bits .ensures)
+    (omega (arith, c .before .before .before .before .before .before .before .before .before .before .before .before .before .before .x-bits .ok)) (omega (arith, c .before .before .before .before .before .before .before .before .y-bits .ok))
+    (x-coded (l .before .entries .ensures) (r .row .ensures) (r .before .kind-at .ensures))
+    (y-coded (l .before .entries .ensures) (r .row .ensures) (r .before .kind-at .ensures))
+    (binds-coded (l .before .entries .ensures) (r .row .ensures) (r .before .kind-at .ensures))
+    (yields-coded (l .before .entries .ensures) (r .row .ensures) (r .before .kind-at .ensures))
+    (c .before .before .before .before .before .before .before .before .before .before .before .before .before .before .before .wide .ensures) (c .before .before .before .before .before .before .before .before .before .wide2 .ensures) (c .before .before .before .before .before .before .before .before .before .before .look .ensures) (c .before .before .before .before .look2 .ensures) (c .before .before .before .make .ensures) (c .before .enum-told .given .1) in
     record {
       first-fault =
           c .node-fault .ensures ∙ ap (refuse _) (ap (λ (q : ℕ). q + l .loop .n) (l .before .before .before .pre .first)) ∙ sym (first-at _ _ (l .loop .n) (l .loop .inv .3) refused (omega (arith, r .before .before .loop-test .taken, l .before .before .before .pre .counted)));
@@ -172,28 +200,28 @@ returns c =
 
 add-n : tie.Need-add-n Inv-loop μ-loop
 add-n c =
-    let l = c .before .before .before .before .before .before .before .before .before .before .before .before .before .before .before .before .before .before .before .before .before .before .before .before in
-    let r = c .before .before .before .before .before .before .before .before .before .before .before .before .before .before .before .before .before .before .before .before .before in
+    let l = c .before .before .before .before .before .before .before .before .before .before .before .before .before .before .before .before .before .before .before .before in
+    let r = c .before .before .before .before .before .before .before .before .before .before .before .before .before .before .before .before .before in
     omega (arith, r .before .before .loop-test .taken, l .before .before .before .pre .counted, l .loop .inv .2 .few-nodes)
 
 loop-less : tie.Need-loop-less Inv-loop μ-loop
 loop-less c =
-    let r = c .before .before .before .before .before .before .before .before .before .before .before .before .before .before .before .before .before .before .before .before .before in
+    let r = c .before .before .before .before .before .before .before .before .before .before .before .before .before .before .before .before .before in
     omega (arith, r .before .before .loop-test .taken)
 
 loop-again : tie.Need-loop-again Inv-loop μ-loop
 unfolding basesOf
 loop-again c =
-    let l = c .before .before .before .before .before .before .before .before .before .before .before .before .before .before .before .before .before .before .before .before .before .before .before .before in
-    let r = c .before .before .before .before .before .before .before .before .before .before .before .before .before .before .before .before .before .before .before .before .before in
+    let l = c .before .before .before .before .before .before .before .before .before .before .before .before .before .before .before .before .before .before .before .before in
+    let r = c .before .before .before .before .before .before .before .before .before .before .before .before .before .before .before .before .before in
     let made : _ = turn-made _ (l .loop .n) _ (l .loop .inv .2) (ap (λ (q : ℕ). q + l .loop .n) (l .before .before .before .pre .first)) (l .loop .inv .1)
-    (c .before .before .before .before .before .before .before .before .before .before .before .before .before .before .before .before .before .before .before .before .aux-at .ensures) (c .before .before .before .before .before .before .before .before .before .before .before .before .before .before .before .before .x-bits .ensures) (c .before .before .before .before .before .before .before .before .before .before .y-bits .ensures)
-    (omega (arith, c .before .before .before .before .before .before .before .before .before .before .before .before .before .before .before .before .x-bits .ok)) (omega (arith, c .before .before .before .before .before .before .before .before .before .before .y-bits .ok))
-    (x-coded (c .before .before .before .before .before .before .before .before .before .before .before .before .before .before .before .before .before .before .before .x-code .ensures) (l .before .entries .ensures) (r .row .ensures) (r .before .kind-at .ensures))
-    (y-coded (c .before .before .before .before .before .before .before .before .before .before .before .before .before .before .before .before .before .before .y-code .ensures) (l .before .entries .ensures) (r .row .ensures) (r .before .kind-at .ensures))
-    (binds-coded (c .before .before .before .before .before .binds .ensures) (l .before .entries .ensures) (r .row .ensures) (r .before .kind-at .ensures))
-    (yields-coded (c .before .before .before .before .yields .ensures) (l .before .entries .ensures) (r .row .ensures) (r .before .kind-at .ensures))
-    (c .before .before .before .before .before .before .before .before .before .before .before .before .before .before .before .before .before .wide .ensures) (c .before .before .before .before .before .before .before .before .before .before .before .wide2 .ensures) (c .before .before .before .before .before .before .before .before .before .before .before .before .look .ensures) (c .before .before .before .before .before .before .look2 .ensures) (c .before .before .before .make .ensures) (omega (arith, r .before .before .loop-test .taken, l .before .before .before .pre .counted)) (c .before .made .given .1) in (
+    (c .before .before .before .before .before .before .before .before .before .before .before .before .before .before .before .before .aux-at .ensures) (c .before .before .before .before .before .before .before .before .before .before .before .before .before .before .x-bits .ensures) (c .before .before .before .before .before .before .before .before .y-bits .ensures)
+    (omega (arith, c .before .before .before .before .before .before .before .before .before .before .before .before .before .before .x-bits .ok)) (omega (arith, c .before .before .before .before .before .before .before .before .y-bits .ok))
+    (x-coded (l .before .entries .ensures) (r .row .ensures) (r .before .kind-at .ensures))
+    (y-coded (l .before .entries .ensures) (r .row .ensures) (r .before .kind-at .ensures))
+    (binds-coded (l .before .entries .ensures) (r .row .ensures) (r .before .kind-at .ensures))
+    (yields-coded (l .before .entries .ensures) (r .row .ensures) (r .before .kind-at .ensures))
+    (c .before .before .before .before .before .before .before .before .before .before .before .before .before .before .before .wide .ensures) (c .before .before .before .before .before .before .before .before .before .wide2 .ensures) (c .before .before .before .before .before .before .before .before .before .before .look .ensures) (c .before .before .before .before .look2 .ensures) (c .before .before .before .make .ensures) (omega (arith, r .before .before .loop-test .taken, l .before .before .before .pre .counted)) (c .before .made .given .1) in (
       omega (arith, r .before .before .loop-test .taken),
       rw (l .loop .inv .1) (limits-more _ (l .loop .n)),
       known-more _ (l .loop .n) _ (l .loop .inv .2) (omega (arith, r .before .before .loop-test .taken, l .before .before .before .pre .counted)) (made .1),
@@ -217,18 +245,24 @@ nodes-spec =
     kind-at-requires
     row-requires
     aux-at-requires
-    mul-entry
-    array-read-entry
-    x-code-requires
-    y-code-requires
+    mul-x-code
+    add-x-code
+    array-read-x-code
+    mul-y-code
+    add-y-code
+    array-read-y-code
     wide-requires
     x-bits-requires
     look-requires
     wide-requires-2
     y-bits-requires
     look-requires-2
-    binds-requires
-    yields-requires
+    mul-binds
+    add-binds
+    array-read-binds
+    mul-make
+    add-make
+    array-read-make
     make-requires
     enum-known-made
     add-facts
