@@ -8,7 +8,7 @@ use native.Mathlib.Numerals.{add-one}
 use native.Mathlib.Omega.{arith}
 use lib.ListN.{length, getD, set, length-set}
 use lib.Seq.{getD-set-same, getD-set-other}
-use Rattle.nodes.specs.Facts.{entered}
+use Rattle.operands.specs.Facts.{entered}
 
 module _ (base : ℕ) (f : ℕ → ℕ) (facts : List ℕ) where
   pub entered-none : facts ≡ entered base f 0 facts

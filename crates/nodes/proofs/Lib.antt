@@ -1,4 +1,3 @@
-pub mod Choices
 pub mod ConstraintTests
 pub mod Entered
 pub mod NodeStep

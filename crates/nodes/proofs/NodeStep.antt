@@ -15,11 +15,11 @@ use Rattle.table.proofs.Signs.{signed-low}
 use Rattle.kinds.specs.Entries.{tag, codeOf, codeX, codeY, tagOf, bindsOf, bindsIn}
 use Rattle.answers.specs.Sections.{slotCount, nodesAt, nodeCount, nodeTrees}
 use Rattle.answers.specs.Check.{unless, nodeSort, fieldAllowed, fieldNames, fieldTyped, kindFault, nodeFault}
-use Rattle.nodes.specs.declared.Looked.{Looked}
-use Rattle.nodes.specs.declared.Looked.the-variants.{Fact, Beyond, OtherType}
-use Rattle.nodes.specs.declared.Made.{Made}
-use Rattle.nodes.specs.declared.Made.the-variants.{Whole, Faulty}
-use Rattle.nodes.specs.Facts.{basesOf, limitsOf, placeOf, typed, looked, isBeyond, joinedOf, madeOf, faultOf}
+use Rattle.operands.specs.declared.Looked.{Looked}
+use Rattle.operands.specs.declared.Looked.the-variants.{Fact, Beyond, OtherType}
+use Rattle.operands.specs.declared.Made.{Made}
+use Rattle.operands.specs.declared.Made.the-variants.{Whole, Faulty}
+use Rattle.operands.specs.Facts.{basesOf, limitsOf, placeOf, typed, looked, isBeyond, joinedOf, madeOf, faultOf}
 use Rattle.answers.proofs.KindRows.{binder}
 use Rattle.answers.proofs.NodeTrees.{sort-some, tree-free}
 use Rattle.nodes.specs.Known.{has, NodeFact, Known}

@@ -20,7 +20,7 @@ use Rattle.answers.specs.Check.{sameSort, variableSort, arraySort, nodeSort, fi
 use Rattle.answers.proofs.KindRows.{treeSort, FieldBelow, fieldFree}
 use Rattle.answers.proofs.NodeTrees.{free-integer, free-boolean, tree-sort}
 use Rattle.answers.proofs.SignedWords.{zero-word, bit-word, names-word, leb-same}
-use Rattle.nodes.specs.Facts.{basesOf, limitsOf, placeOf, typed}
+use Rattle.operands.specs.Facts.{basesOf, limitsOf, placeOf, typed}
 use Rattle.nodes.specs.Known.{has, Known}
 use Rattle.nodes.proofs.SlotSets.{has-none, has-one}
 

@@ -9,7 +9,7 @@ use lib.Bits.{bitAnd, bitOr, and-shr, and-mod, or-shr, or-mod}
 use lib.Pow.{mod-pow-add, pow-pos}
 use borrow.Author.Tests.{ne-eqb}
 use lib.Dec.{eqb}
-use Rattle.nodes.specs.Facts.{joinedOf}
+use Rattle.operands.specs.Facts.{joinedOf}
 use Rattle.nodes.specs.Known.{has}
 
 -- ---- a test that holds for all numbers below another, computed

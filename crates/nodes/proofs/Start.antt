@@ -13,7 +13,7 @@ use Rattle.answers.proofs.Faults.{none-firstFault}
 use Rattle.answers.proofs.SoundSections.{variable-kind, few-variables, few-slots, array-kind, array-no-fault, few-arrays}
 use Rattle.sections.specs.declared.Places.{Places}
 use Rattle.sections.proofs.Bounds.{nodes-section, section-short}
-use Rattle.nodes.specs.Facts.{entered, limitsOf}
+use Rattle.operands.specs.Facts.{entered, limitsOf}
 use Rattle.nodes.specs.Known.{Known, DeclarationsSound}
 use Rattle.nodes.proofs.Entered.{length-entered, entered-at, entered-below, entered-above}
 

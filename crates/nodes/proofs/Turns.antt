@@ -19,7 +19,7 @@ use Rattle.kinds.specs.Entries.{codeOf, codeX, codeY, tagOf, bindsOf, entriesOf
 use Rattle.kinds.proofs.Columns.{row-within, x-at-row, y-at-row, yields-at-row, binds-at-row}
 use Rattle.answers.specs.Sections.{arraysFrom, arraysAt, arrayRecords, behindArray, nodeCount}
 use Rattle.answers.proofs.RunEnds.{arrays-on}
-use Rattle.nodes.specs.Facts.{basesOf, limitsOf, placeOf}
+use Rattle.operands.specs.Facts.{basesOf, limitsOf, placeOf}
 use Rattle.nodes.specs.Known.{NodeFact, Known}
 use Rattle.nodes.proofs.Operands.{tag-small, operand}
 

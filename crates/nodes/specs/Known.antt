@@ -16,7 +16,7 @@ use Rattle.answers.specs.Check.{Refusal, firstFault, nodeSort, variableFault, s
 use Rattle.sections.specs.declared.Places.{Places}
 use Rattle.sections.specs.Places.{placesOf}
 use Rattle.sections.specs.Within.{Section}
-use Rattle.nodes.specs.Facts.{limitsOf}
+use Rattle.operands.specs.Facts.{limitsOf}
 
 -- the slot t is in a set of slots, a bit for each
 unfoldable pub has : ℕ → ℕ → Bool

@@ -7,7 +7,7 @@ use lib.ListN.{getD}
 use Rattle.table.specs.Records.{AR, kindAt}
 use Rattle.answers.specs.Sections.{arrayRecords}
 use Rattle.answers.proofs.RunEnds.{marked-within}
-use Rattle.nodes.specs.Facts.{entered}
+use Rattle.operands.specs.Facts.{entered}
 use Rattle.nodes.proofs.Entered.{entered-none, entered-more}
 use Rattle.nodes.proofs.Turns.{ArrayAt, first-array, array-marked, array-record, next-array}
 use Rattle.nodes.proofs.enter_arrays.Statement.{statement}

@@ -2,7 +2,7 @@
 use mathlib.Core.Path.{_≡_, ap}
 use Prim.Native.Nat.{ℕ, _+_, _-_, _*_, _^_, _≤_}
 use native.Mathlib.Omega.{arith}
-use Rattle.nodes.specs.Facts.{entered}
+use Rattle.operands.specs.Facts.{entered}
 use Rattle.nodes.proofs.Entered.{entered-none, entered-more}
 use lib.Pow.{pow-mono, shl-exact}
 use Rattle.nodes.proofs.enter_slots.Statement.{statement}

@@ -3,7 +3,7 @@ use mathlib.Core.Path.{_≡_}
 use Prim.Native.Nat.{ℕ, _+_, _-_, _≤_}
 use native.Mathlib.Omega.{arith}
 use Rattle.table.specs.Records.{kindAt}
-use Rattle.nodes.specs.Facts.{entered}
+use Rattle.operands.specs.Facts.{entered}
 use Rattle.nodes.proofs.Entered.{entered-none, entered-more}
 use Rattle.nodes.proofs.enter_variables.Statement.{statement}
 use Rattle.nodes.proofs.enter_variables.Tie as tie

@@ -13,7 +13,7 @@ use Prim.Native.Nat.{ℕ, _+_, _-_, _≤_}
 use native.Mathlib.Omega.{arith}
 use Rattle.answers.specs.Sections.{nodesAt}
 use Rattle.answers.specs.Check.{firstFault, nodeFault}
-use Rattle.nodes.specs.Facts.{basesOf, limitsOf}
+use Rattle.operands.specs.Facts.{basesOf, limitsOf}
 use Rattle.nodes.specs.Known.{Known}
 use Rattle.nodes.proofs.nodes.Statement.{statement}
 use Rattle.nodes.proofs.nodes.Tie as tie

@@ -1,4 +1,4 @@
--- `nodes::joined` meets its contract: the sets of slots stay below bit 31.
+-- `operands::joined` meets its contract: the sets of slots stay below bit 31.
 use mathlib.Core.Path.{_≡_}
 use mathlib.Core.Logic.{⊎-elim}
 use mathlib.Core.Bool.{cond}
@@ -7,11 +7,11 @@ use native.Mathlib.Nat.{lt-of-le-of-lt}
 use native.Mathlib.Omega.{arith}
 use lib.Bits.{bitAnd, bitOr, and-le-l, or-lt}
 use lib.Dec.{eqb}
-use Rattle.nodes.specs.Facts.{joinedOf}
-use Rattle.nodes.proofs.Choices.{cond-taken, cond-passed-over}
+use Rattle.operands.specs.Facts.{joinedOf}
+use Rattle.operands.proofs.Choices.{cond-taken, cond-passed-over}
 use borrow.Author.Needs.{needs}
-use Rattle.nodes.proofs.joined.Statement.{statement}
-use Rattle.nodes.proofs.joined.Tie as tie
+use Rattle.operands.proofs.joined.Statement.{statement}
+use Rattle.operands.proofs.joined.Tie as tie
 
 below-sign : (a b k : ℕ) → a < 2 ^ 32 → b < 2 ^ 32 → bitAnd (bitOr (a / 2) (b / 2)) k < 2 ^ 31
 below-sign a b k ha hb = lt-of-le-of-lt (and-le-l (bitOr (a / 2) (b / 2)) k) (or-lt 31 (a / 2) (b / 2) (omega arith) (omega arith))

@@ -1,7 +1,7 @@
--- `nodes::node_fault` meets its contract.
+-- `operands::node_fault` meets its contract.
 use borrow.Author.Needs.{needs}
-use Rattle.nodes.proofs.node_fault.Statement.{statement}
-use Rattle.nodes.proofs.node_fault.Tie as tie
+use Rattle.operands.proofs.node_fault.Statement.{statement}
+use Rattle.operands.proofs.node_fault.Tie as tie
 
 beyond-requires : tie.Need-beyond-requires
 beyond-requires c κs = search needs

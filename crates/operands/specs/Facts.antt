@@ -9,10 +9,10 @@ use lib.Bits.{bitAnd, bitOr}
 use lib.Dec.{eqb, leb, ltb}
 use lib.ListN.{length, getD, set}
 use Rattle.answers.specs.Sections.{variableCount, slotCount, arrayRecords}
-use Rattle.nodes.specs.declared.Looked.{Looked}
-use Rattle.nodes.specs.declared.Looked.the-variants.{Fact, Beyond, OtherType}
-use Rattle.nodes.specs.declared.Made.{Made}
-use Rattle.nodes.specs.declared.Made.the-variants.{Whole, Faulty}
+use Rattle.operands.specs.declared.Looked.{Looked}
+use Rattle.operands.specs.declared.Looked.the-variants.{Fact, Beyond, OtherType}
+use Rattle.operands.specs.declared.Made.{Made}
+use Rattle.operands.specs.declared.Made.the-variants.{Whole, Faulty}
 
 -- values f 0, f 1, .., f (n − 1) put into a list from a place on
 unfoldable pub entered : ℕ → (ℕ → ℕ) → ℕ → List ℕ → List ℕ

@@ -1,15 +1,15 @@
--- `nodes::make` meets its contract, case by case.
+-- `operands::make` meets its contract, case by case.
 use mathlib.Core.Path.{_≡_}
 use Prim.Native.Nat.{ℕ}
 use borrow.Author.Needs.{needs}
 use borrow.Author.Tests.{eq-eqb, ne-eqb}
 use lib.Dec.{eqb}
-use Rattle.nodes.specs.declared.Looked.{Looked}
-use Rattle.nodes.specs.declared.Looked.the-variants.{Fact}
-use Rattle.nodes.specs.declared.Made.the-variants.{Whole}
-use Rattle.nodes.specs.Facts.{joinedOf, madeOf}
-use Rattle.nodes.proofs.make.Statement.{statement}
-use Rattle.nodes.proofs.make.Tie as tie
+use Rattle.operands.specs.declared.Looked.{Looked}
+use Rattle.operands.specs.declared.Looked.the-variants.{Fact}
+use Rattle.operands.specs.declared.Made.the-variants.{Whole}
+use Rattle.operands.specs.Facts.{joinedOf, madeOf}
+use Rattle.operands.proofs.make.Statement.{statement}
+use Rattle.operands.proofs.make.Tie as tie
 
 whole : (binds tag : ℕ) {aux a b r : ℕ} {x y : Looked} → aux ≡ 0 → x ≡ Fact a → y ≡ Fact b → r ≡ joinedOf a b binds tag → Whole r ≡ madeOf (eqb aux 0) x y binds tag
 whole binds tag {aux} z ex ey er = rw (eq-eqb aux 0 z, ex, ey, er)

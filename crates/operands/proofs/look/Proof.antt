@@ -1,4 +1,4 @@
--- `nodes::look` meets its contract: the place is within the facts.
+-- `operands::look` meets its contract: the place is within the facts.
 use mathlib.Core.Path.{_≡_}
 use mathlib.Core.Bool.{cond}
 use mathlib.Core.List.{List}
@@ -9,12 +9,12 @@ use borrow.Author.Tests.{le-ltb, lt-ltb, eq-eqb, ne-eqb}
 use denote.Ref.{now}
 use lib.Dec.{eqb}
 use lib.ListN.{getD}
-use Rattle.nodes.specs.declared.Looked.the-variants.{Fact, OtherType}
-use Rattle.nodes.proofs.Choices.{cond-taken, cond-passed-over}
-use Rattle.nodes.specs.Facts.{placeOf, typed, looked}
+use Rattle.operands.specs.declared.Looked.the-variants.{Fact, OtherType}
+use Rattle.operands.proofs.Choices.{cond-taken, cond-passed-over}
+use Rattle.operands.specs.Facts.{placeOf, typed, looked}
 use borrow.Author.Needs.{needs}
-use Rattle.nodes.proofs.look.Statement.{statement}
-use Rattle.nodes.proofs.look.Tie as tie
+use Rattle.operands.proofs.look.Statement.{statement}
+use Rattle.operands.proofs.look.Tie as tie
 
 place-is : (bases : List ℕ) (code x : ℕ) {i : ℕ} → i ≡ cond (eqb code 2) 0 x → getD bases code 0 + i ≡ placeOf bases code x
 unfolding placeOf
