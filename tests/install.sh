@@ -35,10 +35,10 @@ install_all() {
 # A package: the same files below another folder, whose name stands in none of them; and make does the same.
 install_package() {
     package="$made/a package"
-    ./install DESTDIR="$package" PREFIX=/opt/barfigol >"$made/said" || stop "./install with DESTDIR failed"
-    files_below "$package/opt/barfigol" | cmp - "$made/files" || stop "a package has other files"
+    ./install DESTDIR="$package" PREFIX=/usr >"$made/said" || stop "./install with DESTDIR failed"
+    files_below "$package/usr" | cmp - "$made/files" || stop "a package has other files"
     [ "$(files_below "$package" | wc -l)" -eq "$(wc -l <"$made/files")" ] || stop "a package has files outside its prefix"
-    grep -qx 'prefix=/opt/barfigol' "$package/opt/barfigol/lib/pkgconfig/barfigol.pc" || stop "the prefix of a package"
+    grep -qx 'prefix=/usr' "$package/usr/lib/pkgconfig/barfigol.pc" || stop "the prefix of a package"
     grep -rqF "$made" "$package" && stop "a file of a package names the folder it was made in"
     command -v make >/dev/null 2>&1 || return 0
     make -s install PREFIX="$made/by make" >/dev/null 2>&1 && stop "a prefix that a pkg-config file cannot hold is taken"

@@ -1,17 +1,16 @@
 -- What the code's table has at the row of a kind number.
 use mathlib.Core.Path.{_≡_, refl, sym, _∙_}
 use mathlib.Core.List.{List, [], _∷_}
-use mathlib.Core.Option.{Option, none, some}
+use mathlib.Core.Option.{Option, none}
 use mathlib.Core.Bool.{Bool, true, false, cond}
 use Prim.Native.Nat.{ℕ, zero, suc, _+_, _*_, _≤_, _<_}
-use native.Mathlib.Nat.{mul-suc, not-suc-le-zero, le-of-suc-le-suc}
+use native.Mathlib.Nat.{not-suc-le-zero, le-of-suc-le-suc}
 use native.Mathlib.Omega.{arith}
 use borrow.Author.Tests.{ltb-true, ltb-false}
 use lib.Dec.{ltb}
 use lib.ListN.{length, getD, List·getD-eq-default}
-use Rattle.language.specs.Syntax.{Sort, boolean, integer}
 use Rattle.table.specs.Kinds.{Kind, kinds, kindOf}
-use Rattle.kinds.specs.Entries.{tag, codeX, codeY, tagOf, bindsOf, entryOf, entriesOf, rowOf}
+use Rattle.kinds.specs.Entries.{codeX, codeY, tagOf, bindsOf, entryOf, entriesOf, rowOf}
 
 -- ---- rows
 

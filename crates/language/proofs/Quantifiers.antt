@@ -7,7 +7,7 @@ use mathlib.Core.Logic.{_↔_, _⊎_, inl, inr, ⊎-elim, ⊎-map}
 use mathlib.Core.Option.{Option, none, some, Option·some-ne-none, Option·some-injective}
 use lib.Dec.{T}
 use lib.IntN.{ℤ, pos, _+ℤ_, _-ℤ_, natAbs}
-use lib.Signed.{leZ, _≤ℤ_, leZ-yes}
+use lib.Signed.{leZ, _≤ℤ_}
 use Rattle.numbers.proofs.Naturals.{lt-or-ge}
 use Rattle.numbers.proofs.Parts.{+-parts, ≤→parts}
 use Rattle.numbers.proofs.Order.{≤-trans, +-difference}

@@ -1,6 +1,6 @@
 -- What a translation gives tells the listing's text.
 use mathlib.Core.Path.{_≡_, refl, ap, _∙_}
-use Prim.Native.Nat.{ℕ, zero, suc, _+_, _*_, _≤_, _<_}
+use Prim.Native.Nat.{ℕ, zero, suc, _*_, _≤_, _<_}
 use native.Mathlib.Nat.{mul-div-right, mul-suc, add-zero}
 use native.Mathlib.Omega.{arith}
 use mathlib.Core.Bool.{false}

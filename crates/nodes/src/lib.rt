@@ -4,12 +4,10 @@
 // of them stand in one array, so an operand is tested, and its free slots are read, in one look.
 ghost use mathlib.Core.Path.{_≡_};
 ghost use Prim.Native.Nat.{ℕ, _+_, _*_, _^_, _≤_, _<_};
-ghost use mathlib.Core.Option.{Option, none, some};
-ghost use lib.Dec.{eqb};
 ghost use lib.ListN.{length, getD};
 ghost use Rattle.table.specs.Records.{recordCount, kindAt};
 ghost use Rattle.answers.specs.Sections.{arrayRecords};
-ghost use Rattle.answers.specs.Check.{refuse, firstFault, constraintFault};
+ghost use Rattle.answers.specs.Check.{firstFault, constraintFault};
 ghost use Rattle.verdict.specs.Results.{refusalOf, faultAt};
 ghost use Rattle.nodes.specs.Known.{Arrays, Nodes, NodesChecked, ConstraintAt, Constraints, DeclarationsSound, bodyFault};
 ghost use Rattle.operands.specs.Facts.{entered};

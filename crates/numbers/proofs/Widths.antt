@@ -1,7 +1,7 @@
 -- Signed machine integers of 32 and 64 bits: what fits the narrow width fits the wide one, and so do sums, differences, products,
 -- quotients and remainders of narrow numbers. And the limit as the code tests it.
 use mathlib.Core.Path.{_≡_, refl, sym, subst, _∙_}
-use Prim.Native.Nat.{ℕ, suc, _+_, _-_, _*_, _^_, _≤_, _<_}
+use Prim.Native.Nat.{ℕ, suc, _+_, _-_, _^_, _≤_, _<_}
 use native.Mathlib.Omega.{arith}
 use native.Mathlib.Nat.{mul-le-mul, pos-of-ne-zero}
 use mathlib.Core.Bool.{Bool, true, false}

@@ -1,10 +1,9 @@
 -- What the check of the nodes keeps of each thing that a node may name: one number, twice the set of its free slots, a bit for each slot,
 -- and 1 more where it yields integers.
 -- Internal: a contract behind the public ones; no public promise cites it.
-use Prim.Native.Nat.{ℕ, zero, suc, _+_, _-_, _*_, _/_, _%_, _^_}
+use Prim.Native.Nat.{ℕ, zero, suc, _+_, _-_, _*_, _/_, _%_}
 use mathlib.Core.Bool.{Bool, true, false, cond, not, _&&_, _||_}
 use mathlib.Core.List.{List, [], _∷_}
-use mathlib.Core.Option.{Option, none, some}
 use lib.Bits.{bitAnd, bitOr}
 use lib.Dec.{eqb, leb, ltb}
 use lib.ListN.{length, getD, set}

@@ -1,6 +1,6 @@
 -- Whose steps a node takes over, by the fields of its kind.
 -- Internal: a contract behind the public ones; no public promise cites it.
-use Prim.Native.Nat.{ℕ, _+_, _*_}
+use Prim.Native.Nat.{ℕ, _+_}
 use mathlib.Core.Bool.{Bool, true, false, cond, _&&_}
 use mathlib.Core.Option.{Option, none, some}
 use Rattle.table.specs.Kinds.{Field, unused, anyNumber, truthValue, variableNumber, slotNumber, arrayNumber, nodeNumber, Kind}
