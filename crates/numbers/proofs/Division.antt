@@ -64,7 +64,7 @@ natAbs-quotient-≤ (negsuc a) (pos b) = rw natAbs-neg (div-le-self (suc a) b)
 natAbs-quotient-≤ (negsuc a) (negsuc b) = div-le-self (suc a) (suc b)
 
 -- A divisor other than 0 has a magnitude.
-natAbs-positive : (b : ℤ) → T (not (eqZ b (pos 0))) → 0 < natAbs b
+pub natAbs-positive : (b : ℤ) → T (not (eqZ b (pos 0))) → 0 < natAbs b
 unfolding eqZ
 natAbs-positive (pos zero) t = absurd t
 natAbs-positive (pos (suc n)) t = omega arith

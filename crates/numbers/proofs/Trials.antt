@@ -1,5 +1,5 @@
--- Trials of the quotient and the remainder at all sign combinations, and of the limit at its ends. Each is one computed claim about a table
--- of rows: a row worked out again is itself.
+-- Trials of the quotient and the remainder at all sign combinations, at 0, ±1, both ends of the limit and −2^31, and of the limit at its ends. Each is
+-- one computed claim about a table of rows: a row worked out again is itself.
 use mathlib.Core.Path.{_≡_, refl}
 use mathlib.Core.Bool.{Bool, true, false}
 use mathlib.Core.List.{List, [], _∷_, map}
@@ -33,9 +33,23 @@ divisions =
     ∷ row (negsuc 0) (negsuc 4) (pos 0) (pos 4)
     ∷ row (pos 0) (pos 5) (pos 0) (pos 0)
     ∷ row (pos 0) (negsuc 4) (pos 0) (pos 0)
+    ∷ row (pos 0) (pos 1) (pos 0) (pos 0)
+    ∷ row (pos 0) (negsuc 0) (pos 0) (pos 0)
+    ∷ row (pos 1) (pos 1) (pos 1) (pos 0)
+    ∷ row (pos 1) (negsuc 0) (negsuc 0) (pos 0)
+    ∷ row (negsuc 0) (pos 1) (negsuc 0) (pos 0)
+    ∷ row (negsuc 0) (negsuc 0) (pos 1) (pos 0)
+    ∷ row (pos 2_000_000_000) (pos 1) (pos 2_000_000_000) (pos 0)
+    ∷ row (pos 2_000_000_000) (negsuc 0) (negsuc 1_999_999_999) (pos 0)
     ∷ row (negsuc 1_999_999_999) (pos 1) (negsuc 1_999_999_999) (pos 0)
     ∷ row (negsuc 1_999_999_999) (negsuc 0) (pos 2_000_000_000) (pos 0)
     ∷ row (negsuc 1_999_999_999) (pos 1_999_999_999) (negsuc 0) (pos 1_999_999_998)
+    ∷ row (negsuc 2_147_483_647) (pos 1) (negsuc 2_147_483_647) (pos 0)
+    ∷ row (negsuc 2_147_483_647) (negsuc 0) (pos 2_147_483_648) (pos 0)
+    ∷ row (negsuc 2_147_483_647) (negsuc 2_147_483_647) (pos 1) (pos 0)
+    ∷ row (pos 0) (negsuc 2_147_483_647) (pos 0) (pos 0)
+    ∷ row (pos 1) (negsuc 2_147_483_647) (pos 0) (pos 1)
+    ∷ row (negsuc 0) (negsuc 2_147_483_647) (pos 0) (pos 2_147_483_647)
     ∷ []
 
 worked : Division → Division

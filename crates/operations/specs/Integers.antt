@@ -1,8 +1,9 @@
 -- Operations on what the walk met, each by the language's own operation on values.
 -- Internal: a contract behind the public ones; no public promise cites it.
+use Prim.Native.Nat.{ℕ}
 use mathlib.Core.Bool.{Bool, true, false, _&&_}
 use mathlib.Core.Option.{Option, none, some, Option·map}
-use lib.IntN.{ℤ, pos, negsuc, negℤ}
+use lib.IntN.{ℤ, pos, negℤ}
 use Rattle.language.specs.Syntax as syntax
 use Rattle.language.specs.Readings.{both}
 use Rattle.language.specs.Meaning.{number}
@@ -46,7 +47,7 @@ negated a = limitedTo (a .within) (Option·map negℤ (integerOf (a .value)))
 unfoldable pub numbered : Walked → Walked
 numbered a = limitedTo (a .within) (Option·map number (truthOf (a .value)))
 
--- a number with its sign turned where `by` is below zero
-abbrev pub turnedBy : ℤ → ℤ → ℤ
-turnedBy (pos n) z = z
-turnedBy (negsuc n) z = negℤ z
+-- the number of a magnitude, below zero or not
+abbrev pub signedBy : Bool → ℕ → ℤ
+signedBy true m = negℤ (pos m)
+signedBy false m = pos m

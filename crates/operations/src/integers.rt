@@ -2,11 +2,11 @@
 ghost use mathlib.Core.Path.{_≡_};
 ghost use mathlib.Core.Bool.{false};
 ghost use mathlib.Core.Option.{some};
-ghost use lib.IntN.{pos};
+ghost use lib.IntN.{pos, natAbs};
 ghost use Rattle.numbers.specs.Whole.{eqZ};
 ghost use Rattle.numbers.specs.Whole as whole;
 ghost use Rattle.language.specs.Readings as readings;
-ghost use Rattle.operations.specs.Integers.{arithmeticOf, divisionOf, operandsOf, integers, negated, numbered, turnedBy};
+ghost use Rattle.operations.specs.Integers.{arithmeticOf, divisionOf, operandsOf, integers, negated, numbered, signedBy};
 use crate::values::Value;
 use crate::values::Walked;
 use crate::values::limited;
@@ -31,6 +31,7 @@ pub enum Operands {
     Missing(bool),
 }
 
+// Which of the two cases a pair of operands is.
 pub fn integers_of(a: Walked, b: Walked) -> Operands
     ensures { λ r. ⌜ r ≡ operandsOf a b ⌝ }
 {
@@ -51,7 +52,7 @@ pub fn integers_of(a: Walked, b: Walked) -> Operands
     }
 }
 
-// Sums and products of 32 bits fit 64.
+// What an operation makes of two numbers; sums and products of 32 bits fit 64.
 fn combined(op: Arithmetic, x: i32, y: i32) -> i64
     ensures { λ r. ⌜ r ≡ readings.arithmetic (arithmeticOf op) x y ⌝ }
 {
@@ -64,6 +65,7 @@ fn combined(op: Arithmetic, x: i32, y: i32) -> i64
     }
 }
 
+// Arithmetic on what the walk met.
 pub fn calculate(op: Arithmetic, a: Walked, b: Walked) -> Walked
     ensures { λ r. ⌜ r ≡ integers (λ x y. some (readings.arithmetic (arithmeticOf op) x y)) a b ⌝ }
 {
@@ -71,6 +73,34 @@ pub fn calculate(op: Arithmetic, a: Walked, b: Walked) -> Walked
         Operands::Both(x, y) => limited(true, combined(op, x, y)),
         Operands::Missing(within) => undefined(within),
     }
+}
+
+// A number without its sign; that of −2^31 fits too.
+fn magnitude(z: i32) -> u32
+    ensures { λ r. ⌜ r ≡ natAbs z ⌝ }
+{
+    if z < 0 {
+        (0 - z as i64) as u32
+    } else {
+        z as u32
+    }
+}
+
+// The number of a magnitude, below zero or not.
+fn with_sign(negative: bool, m: u32) -> i64
+    ensures { λ r. ⌜ r ≡ signedBy negative m ⌝ }
+{
+    if negative { 0 - m as i64 } else { m as i64 }
+}
+
+// "The quotient is cut toward zero": that of the magnitudes; then the sign is set, below zero where the signs differ.
+fn quotient(x: i32, y: i32) -> i64
+    requires { ⌜ eqZ y (pos 0) ≡ false ⌝ }
+    ensures { λ r. ⌜ r ≡ whole.quotient x y ⌝ }
+{
+    let q = magnitude(x) / magnitude(y);
+    let negative = (x < 0) != (y < 0);
+    with_sign(negative, q)
 }
 
 // "mod is the remainder in 0 to |b|−1": what the machine's remainder leaves, and |b| more where that is negative.
@@ -88,26 +118,7 @@ fn remainder(x: i32, y: i32) -> i64
     }
 }
 
-// A number with its sign turned where `by` is below zero.
-fn turned(z: i32, by: i32) -> i64
-    ensures { λ r. ⌜ r ≡ turnedBy by z ⌝ }
-{
-    if by < 0 { 0 - z as i64 } else { z as i64 }
-}
-
-// "The quotient is cut toward zero": the magnitudes are divided and the sign is put back. A machine divides numbers below zero
-// more slowly.
-fn quotient(x: i32, y: i32) -> i64
-    requires { ⌜ eqZ y (pos 0) ≡ false ⌝ }
-    ensures { λ r. ⌜ r ≡ whole.quotient x y ⌝ }
-{
-    let divisor = turned(y, y);
-    let a = turned(x, y);
-    let dividend = if a < 0 { 0 - a } else { a };
-    let q = dividend / divisor;
-    if a < 0 { 0 - q } else { q }
-}
-
+// The quotient or the remainder.
 fn part(op: Division, x: i32, y: i32) -> i64
     requires { ⌜ eqZ y (pos 0) ≡ false ⌝ }
     ensures { λ r. ⌜ r ≡ readings.part (divisionOf op) x y ⌝ }
@@ -132,6 +143,7 @@ pub fn divide(op: Division, a: Walked, b: Walked) -> Walked
     }
 }
 
+// The number with the other sign.
 pub fn negate(a: Walked) -> Walked
     ensures { λ r. ⌜ r ≡ negated a ⌝ }
 {

@@ -207,13 +207,17 @@ fn a_value_beyond_is_met_below_small_ones(calls: &dyn Calls) {
         .node(Node::constant(2))
         .node(Node::div(0, 1));
     assert!(is_beyond(calls, table, 2));
-    // i32::MIN div −1, and its remainder.
+    // Divided or dividing, i32::MIN is beyond, whatever its quotient or remainder.
     for operation in [Node::div(0, 1), Node::modulo(0, 1)] {
-        let table = Table::new()
-            .node(Node::constant(i32::MIN))
-            .node(Node::constant(-1))
-            .node(operation);
-        assert!(is_beyond(calls, table, 2));
+        for other in [0, 1, -1, LIMIT, -LIMIT, i32::MIN] {
+            for (a, b) in [(i32::MIN, other), (other, i32::MIN)] {
+                let table = Table::new()
+                    .node(Node::constant(a))
+                    .node(Node::constant(b))
+                    .node(operation);
+                assert!(is_beyond(calls, table, 2), "{operation:?} of {a} and {b}");
+            }
+        }
     }
 }
 
