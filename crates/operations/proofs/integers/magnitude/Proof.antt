@@ -16,25 +16,30 @@ use Rattle.numbers.proofs.Widths.{through, widened, arrives, negation-fits, nat
 use Rattle.operations.proofs.integers.magnitude.Statement.{statement}
 use Rattle.operations.proofs.integers.magnitude.Tie as tie
 
+-- The opposite of a number below zero is no longer negative.
 below-zero : (z : ℤ) → ltZ z (pos 0) ≡ true → T (nonNeg (negℤ z))
 below-zero (pos n) t = absurd (omega (arith, ltb-true n 0 t))
 below-zero (negsuc n) t = tt
 
+-- A number that is not below zero is not negative.
 from-zero : (z : ℤ) → ltZ z (pos 0) ≡ false → T (nonNeg z)
 from-zero (pos n) t = tt
 from-zero (negsuc n) t = absurd (true≢false t)
 
 module _ (z : ℤ) (p : SFits w32 z) where
+  -- What the code makes of a number below zero is its opposite.
   negated : toZ w64 (ofZ w64 (pos 0 -ℤ through z)) ≡ negℤ z
   negated = rw (arrives z p, toZ-ofZ (negation-fits z p)) (+ℤ-idl (negℤ z))
 
   small : natAbs z < 2 ^ 32
   small = omega (arith, natAbs-fits z p)
 
+  -- It may be taken for a number of 32 bits without a sign.
   negated-fits : ltZ (toZ w32 (ofZ w32 z)) (pos 0) ≡ true →
       T (nonNeg (toZ w64 (ofZ w64 (pos 0 -ℤ through z)))) × Fits w32 (natAbs (toZ w64 (ofZ w64 (pos 0 -ℤ through z))))
   negated-fits t = rw negated (below-zero z (rw (toZ-ofZ p) at t), record { fits = rw (natAbs-neg z) small })
 
+  -- So may a number that is kept.
   kept-fits : ltZ (toZ w32 (ofZ w32 z)) (pos 0) ≡ false → T (nonNeg (toZ w32 (ofZ w32 z))) × Fits w32 (natAbs (toZ w32 (ofZ w32 z)))
   kept-fits t = rw (toZ-ofZ p) (from-zero z (rw (toZ-ofZ p) at t), record { fits = small })
 

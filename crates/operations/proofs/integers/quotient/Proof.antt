@@ -38,9 +38,11 @@ with-sign-requires c κs = search needs
 returns : tie.Need-returns
 returns c =
     let s = c .before .before .before in
+    let m = c .before .before .magnitude .ensures in
+    let n = c .before .magnitude2 .ensures in
     toZ-ofZ (sfits-of (c .with-sign .ok))
     ∙ c .with-sign .ensures
-    ∙ rw (c .before .before .magnitude .ensures, c .before .magnitude2 .ensures, toZ-ofZ (s .fits .x), toZ-ofZ (s .fits .y)) (signed-quotient (s .args .x) (s .args .y))
+    ∙ rw (m, n, toZ-ofZ (s .fits .x), toZ-ofZ (s .fits .y)) (signed-quotient (s .args .x) (s .args .y))
 
 pub quotient-spec : {M : Type 1} → statement M
 quotient-spec = tie.close (tie.spec magnitude-requires magnitude-requires-2 div-q with-sign-requires returns)

@@ -13,12 +13,15 @@ use Rattle.operations.proofs.integers.with_sign.Statement.{statement}
 use Rattle.operations.proofs.integers.with_sign.Tie as tie
 
 module _ (m : ℕ) (p : Fits w32 m) where
+  -- 64 bits with a sign hold the magnitude.
   widened : toZ w64 m ≡ pos m
   widened = toZ-ofZ (natAbs→fits (pos m) (omega (arith, p .fits)))
 
+  -- And its opposite.
   negated-fits : SFits w64 (pos 0 -ℤ toZ w64 m)
   negated-fits = rw (widened, +ℤ-idl (negℤ (pos m))) (natAbs→fits (negℤ (pos m)) (omega (arith, natAbs-neg (pos m), p .fits)))
 
+  -- What the code makes of it is that opposite.
   negated : toZ w64 (ofZ w64 (pos 0 -ℤ toZ w64 m)) ≡ negℤ (pos m)
   negated = toZ-ofZ negated-fits ∙ rw widened (+ℤ-idl (negℤ (pos m)))
 
