@@ -118,14 +118,14 @@ fn remainder(x: i32, y: i32) -> i64
     }
 }
 
-// The quotient or the remainder.
+// The remainder or the quotient.
 fn part(op: Division, x: i32, y: i32) -> i64
     requires { ⌜ eqZ y (pos 0) ≡ false ⌝ }
     ensures { λ r. ⌜ r ≡ readings.part (divisionOf op) x y ⌝ }
 {
     match op {
-        Division::Quotient => quotient(x, y),
         Division::Remainder => remainder(x, y),
+        Division::Quotient => quotient(x, y),
     }
 }
 

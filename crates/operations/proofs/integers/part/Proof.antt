@@ -34,26 +34,26 @@ handed y q e = rw (toZ-ofZ q) e
 enum-told : tie.Need-enum-told
 enum-told c = search needs
 
-quotient-requires : tie.Need-quotient-requires
-quotient-requires c κs = let s = c .before .before in handed (s .args .y) (s .fits .y) (s .pre)
+remainder-requires : tie.Need-remainder-requires
+remainder-requires c κs = let s = c .before .before in handed (s .args .y) (s .fits .y) (s .pre)
 
 enum-told-2 : tie.Need-enum-told-2
 enum-told-2 c = search needs
 
-remainder-requires : tie.Need-remainder-requires
-remainder-requires c κs = let s = c .before .before in handed (s .args .y) (s .fits .y) (s .pre)
+quotient-requires : tie.Need-quotient-requires
+quotient-requires c κs = let s = c .before .before in handed (s .args .y) (s .fits .y) (s .pre)
 
 returns : tie.Need-returns
 returns c =
     let s = c .before .before .before in
-    by-quotient (s .args .x) (s .args .y) (c .before .enum-told .given .1)
-    (worked-out whole.quotient (s .args .x) (s .args .y) (c .quotient .result) (s .fits .x) (s .fits .y) (sfits-of (c .quotient .ok)) (c .quotient .ensures))
+    by-remainder (s .args .x) (s .args .y) (c .before .enum-told .given .1)
+    (worked-out whole.remainder (s .args .x) (s .args .y) (c .remainder .result) (s .fits .x) (s .fits .y) (sfits-of (c .remainder .ok)) (c .remainder .ensures))
 
 returns-2 : tie.Need-returns-2
 returns-2 c =
     let s = c .before .before .before in
-    by-remainder (s .args .x) (s .args .y) (c .before .enum-told2 .given .1)
-    (worked-out whole.remainder (s .args .x) (s .args .y) (c .remainder .result) (s .fits .x) (s .fits .y) (sfits-of (c .remainder .ok)) (c .remainder .ensures))
+    by-quotient (s .args .x) (s .args .y) (c .before .enum-told2 .given .1)
+    (worked-out whole.quotient (s .args .x) (s .args .y) (c .quotient .result) (s .fits .x) (s .fits .y) (sfits-of (c .quotient .ok)) (c .quotient .ensures))
 
 pub part-spec : {M : Type 1} → statement M
-part-spec = tie.close (tie.spec enum-told quotient-requires enum-told-2 remainder-requires returns returns-2)
+part-spec = tie.close (tie.spec enum-told remainder-requires enum-told-2 quotient-requires returns returns-2)
