@@ -34,9 +34,9 @@
 #include <stdint.h>
 
 /* The version of the library, of this header and of the command. */
-#define BARFIGOL_VERSION "0.1.0"
+#define BARFIGOL_VERSION "0.2.0"
 #define BARFIGOL_VERSION_MAJOR 0
-#define BARFIGOL_VERSION_MINOR 1
+#define BARFIGOL_VERSION_MINOR 2
 #define BARFIGOL_VERSION_PATCH 0
 
 #ifdef __cplusplus

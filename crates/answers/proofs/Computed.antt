@@ -31,7 +31,7 @@ evaluated choice table α budget lent = Answers.evaluate choice table α budget 
 
 -- translation
 unfoldable pub translated : ℕ → List ℕ → List ℕ → Answers.Outcome
-unfolding evaluated Bounds.magnitude Bounds.hull Bounds.only Bounds.products Bounds.arithInterval Bounds.divideInterval Bounds.slotInterval Bounds.variableInterval Bounds.elementInterval Bounds.hullWith Bounds.elementsInterval Bounds.interval Bounds.withinBounds Formulas.divideV Formulas.divideD Formulas.inside Formulas.clamped Formulas.refuted Formulas.behind Formulas.settled Formulas.connectP Formulas.connectN Formulas.quantifyP Formulas.quantifyN Rules.last Rules.guard Rules.index Rules.rule Writing.leaf Writing.unary Writing.binary Writing.writeI Writing.inTurn Writing.writeRule Writing.nothingYet Writing.ruleAfter Writing.append Writing.step Writing.translateAfter Writing.translateRows Answers.boundsFault Answers.translated Answers.newNodes Answers.newConstraints Answers.newCount Answers.translation Answers.roomFault Answers.translateOrder Answers.translationDone Answers.translate
+unfolding evaluated Bounds.magnitude Bounds.hull Bounds.only Bounds.products Bounds.arithInterval Bounds.around Bounds.divideInterval Bounds.slotInterval Bounds.variableInterval Bounds.elementInterval Bounds.hullWith Bounds.elementsInterval Bounds.interval Bounds.withinBounds Formulas.divideV Formulas.divideD Formulas.inside Formulas.clamped Formulas.refuted Formulas.behind Formulas.settled Formulas.connectP Formulas.connectN Formulas.quantifyP Formulas.quantifyN Rules.last Rules.guard Rules.index Rules.rule Writing.leaf Writing.unary Writing.binary Writing.writeI Writing.inTurn Writing.writeRule Writing.nothingYet Writing.ruleAfter Writing.append Writing.step Writing.translateAfter Writing.translateRows Answers.boundsFault Answers.translated Answers.newNodes Answers.newConstraints Answers.newCount Answers.translation Answers.roomFault Answers.translateOrder Answers.translationDone Answers.translate
 translated choice table lent = Answers.translate choice table lent
 
 -- the listing

@@ -1,17 +1,18 @@
--- The page's proofs: demands 1, 2 and 3, and that each promise allows one answer.
+-- The page's proofs: demands 1, 2 and 3, that each promise allows one answer, and what division gives.
 use mathlib.Core.Path.{_≡_, refl, sym, ap, _∙_}
 use Prim.Native.Nat.{ℕ}
 use mathlib.Core.Bool.{false}
 use mathlib.Core.List.{List, []}
 use mathlib.Core.Option.{none}
 use lib.ListN.{length}
+use Rattle.numbers.proofs.Division.{natAbs-remainder-<, remainder-≥0, remainder-≤0, divided}
 use Rattle.language.specs.Meaning.{Assignment}
 use Rattle.answers.specs.Answers as Answers
 use Rattle.answers.specs.Check.{first, checkOrder, checkFault}
 use Rattle.answers.specs.Answers.{Outcome, done, outcome, readingChosen, verdicts, evaluateOrder, evaluationDone, translation, translateOrder, translationDone}
 use Rattle.answers.proofs.Faults.{none-orElse}
 use Rattle.answers.proofs.Translatable.{Translatable, none→Translatable}
-use Rattle.demands.specs.Demands.{OneAnswer, Answered, AnsweredWith, Demand1, Evaluated, written, WrittenByRules, Demand2, Demand3}
+use Rattle.demands.specs.Demands.{OneAnswer, Answered, AnsweredWith, Demand1, Evaluated, written, WrittenByRules, Demand2, Demand3, Division}
 use Rattle.answers.proofs.Numbers.{upTo, Numbered-check, evaluateOrder-numbered, translateOrder-numbered}
 use Rattle.demands.proofs.Outcomes.{check-is, outcome-answered, number-0→none}
 use Rattle.demands.proofs.TotalTable.{translation-total}
@@ -122,4 +123,18 @@ demand-3 =
       translate = λ choice table lent o p z.
           rw (demand-2 .translate choice table lent o p z .by-the-rules)
           (translation-total table (readingChosen choice) (translate-translatable choice table lent o p z));
+    }
+
+-- ---- division
+
+pub division : Division
+division =
+    record {
+      divided = λ a b t.
+          record {
+            identity = divided a b t;
+            not-below = remainder-≥0 a b;
+            not-above = remainder-≤0 a b;
+            nearer = natAbs-remainder-< a b t;
+          };
     }

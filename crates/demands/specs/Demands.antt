@@ -1,15 +1,18 @@
 -- The page of the three demands: the promise of each public function, and demands 1, 2 and 3, each in the user's words and then as a formal
--- statement about every result that the promise allows. The proofs are in proofs/Demands.antt; that useless versions are shut out is in
+-- statement about every result that the promise allows; and what request L3 asks of division. The proofs are in proofs/Demands.antt; that useless versions are shut out is in
 -- proofs/Useless.antt; that the functions of the code keep these promises and ask nothing is in the crate `promises`. What the statements cite:
 -- language/specs (the readings, values, steps), rules/specs (intervals, the rules), answers/specs (the check, the three answers, the listing).
 use mathlib.Core.Path.{_≡_}
 use Prim.Native.Nat.{ℕ, _≤_, _<_}
-use mathlib.Core.Bool.{true}
+use mathlib.Core.Bool.{true, not}
 use mathlib.Core.List.{List, _++_}
 use mathlib.Core.Logic.{_↔_}
 use mathlib.Core.Option.{Option, none, some}
 use lib.Dec.{T}
+use lib.IntN.{ℤ, pos, _+ℤ_, _*ℤ_, natAbs}
 use lib.ListN.{length, getD, take, drop}
+use lib.Signed.{_≤ℤ_}
+use Rattle.numbers.specs.Whole.{eqZ, quotient, remainder}
 use Rattle.language.specs.Syntax.{Declarations}
 use Rattle.language.specs.Tables.{Tree, freeIn}
 use Rattle.language.specs.Readings.{Reading}
@@ -149,3 +152,19 @@ pub record TotalTable (table : List ℕ) (ρ : Reading) (new : List ℕ) : Type 
 pub record Demand3 : Type 0 where
   pub translate : (choice : ℕ) (table lent : List ℕ) (o : Outcome)
       → Translates choice table lent o → o .answer .number ≡ 0 → TotalTable table (readingChosen choice) (written o)
+
+-- ---- division
+
+-- q and r are what dividing a by b gives.
+pub record Divided (a b q r : ℤ) : Type 0 where
+  -- "a is always b times (a div b) plus (a mod b)"
+  pub identity : a ≡ (b *ℤ q) +ℤ r
+  -- "the sign of the dividend": no remainder lies on the other side of 0
+  pub not-below : pos 0 ≤ℤ a → pos 0 ≤ℤ r
+  pub not-above : a ≤ℤ pos 0 → r ≤ℤ pos 0
+  -- and it is nearer to 0 than the divisor is
+  pub nearer : natAbs r < natAbs b
+
+-- "the identity above is proved for every non-zero b"
+pub record Division : Type 0 where
+  pub divided : (a b : ℤ) → T (not (eqZ b (pos 0))) → Divided a b (quotient a b) (remainder a b)

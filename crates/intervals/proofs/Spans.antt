@@ -1,6 +1,6 @@
 -- Laws of intervals as the code works them out.
 use mathlib.Core.Path.{_≡_, refl, sym, ap, _∙_}
-use Prim.Native.Nat.{ℕ, suc, _-_, _≤_, _<_, max}
+use Prim.Native.Nat.{ℕ, zero, suc, _-_, _≤_, _<_, max}
 use native.Mathlib.Omega.{arith}
 use native.Mathlib.Nat.{mul-le-mul}
 use mathlib.Core.Bool.{Bool, true, false, _&&_}
@@ -19,7 +19,7 @@ use Rattle.numbers.proofs.Tests.{cond-cases}
 use Rattle.numbers.proofs.Parts.{+-parts, up-neg, dn-neg, ≤→parts, parts→≤, parts→≡}
 use Rattle.language.specs.Syntax.{Slot}
 use Rattle.language.specs.Meaning.{count}
-use Rattle.rules.specs.Bounds.{Interval, _to_, magnitude, hull}
+use Rattle.rules.specs.Bounds.{Interval, _to_, magnitude, hull, around}
 use Rattle.intervals.specs.Spans.{span, asSlot, Small, Narrow}
 use Rattle.intervals.specs.declared.Ends.{Ends}
 
@@ -110,34 +110,38 @@ pub largest-held : (i : Ends) → Small i → {m n r : ℤ} → SFits w64 m → 
 unfolding magnitude
 largest-held i s p q t e f g = held-both greatest p q t g ∙ rw (e, f, held-small (i .low) (limit-small (i .low) (s .low)), held-small (i .high) (limit-small (i .high) (s .high))) (greatest-pos (natAbs (i .low)) (natAbs (i .high)))
 
+-- ---- −m..m
+
+pub around-span : (m : ℤ) → natAbs m ≤ limit → (held (pos 0 -ℤ held m) to held m) ≡ (negℤ m to m)
+around-span m h = to-cong (negative-held m h) (held-small m (limit-small m h))
+
+-- max(0, m − 1)
+greatest-one-less : (m : ℕ) → greatest (pos 0) (pos m -ℤ pos 1) ≡ pos (m - 1)
+unfolding greatest
+greatest-one-less zero = refl
+greatest-one-less (suc m) =
+    rw (parts→≡ (pos (suc m) -ℤ pos 1) (pos (suc m - 1)) (omega (arith, +-parts (pos (suc m)) (negsuc 0)))) (greatest-pos 0 (suc m - 1) ∙ ap pos (omega arith))
+
+pub one-less-≤ : {m : ℕ} → m ≤ limit → m - 1 ≤ limit
+one-less-≤ h = omega arith
+
+-- What is handed on as a natural number within the limit: the interval around 0 that it makes, and the number that is one less.
 module _ {M : ℕ} {r : ℤ} (h : M ≤ limit) (e : r ≡ pos M) where
-  within-limit : natAbs r ≤ limit
-  within-limit = rw e h
-
-  pub opposite-fits : SFits w64 (pos 0 -ℤ held r)
-  opposite-fits = negative-fits r within-limit
-
-  pub quotients-span : (held (pos 0 -ℤ held r) to held r) ≡ (negℤ (pos M) to pos M)
-  quotients-span = to-cong (negative-held r within-limit ∙ ap negℤ e) (held-small r (limit-small r within-limit) ∙ e)
-
   held-is : held r ≡ pos M
-  held-is = held-small r (limit-small r within-limit) ∙ e
+  held-is = rw e (held-small (pos M) (limit-small (pos M) h))
 
-  pub none-left : ltZ (held r) (pos 1) ≡ true → (pos 0 to pos 0) ≡ (pos 0 to pos (M - 1))
-  none-left t = to-cong refl (ap pos (omega (arith, ltb-true M 1 (rw held-is at t))))
+  pub held-within : natAbs (held r) ≤ limit
+  held-within = rw held-is h
 
-  module _ (t : ltZ (held r) (pos 1) ≡ false) where
-    some-left : 1 ≤ M
-    some-left = ltb-false M 1 (rw held-is at t)
+  pub held-around : (negℤ (held r) to held r) ≡ around M
+  unfolding around
+  held-around = rw held-is
 
-    one-less : held r -ℤ pos 1 ≡ pos (M - 1)
-    one-less = ap (λ z. z -ℤ pos 1) held-is ∙ parts→≡ (pos M -ℤ pos 1) (pos (M - 1)) (omega (arith, some-left, +-parts (pos M) (negsuc 0)))
+  pub one-less-fits : SFits w64 (held r -ℤ pos 1)
+  one-less-fits = rw held-is (natAbs→fits (pos M -ℤ pos 1) (omega (arith, natAbs---≤ (pos M) (pos 1))))
 
-    pub one-less-fits : SFits w64 (held r -ℤ pos 1)
-    one-less-fits = rw one-less (natAbs→fits (pos (M - 1)) (omega arith))
-
-    pub remainders-span : (pos 0 to held (held r -ℤ pos 1)) ≡ (pos 0 to pos (M - 1))
-    remainders-span = to-cong refl (rw one-less (held-small (pos (M - 1)) (omega arith)))
+  pub one-less : {k : ℤ} → k ≡ greatest (pos 0) (held (held r -ℤ pos 1)) → k ≡ pos (M - 1)
+  one-less g = g ∙ rw (toZ-ofZ one-less-fits, held-is) (greatest-one-less M)
 
 -- ---- slots
 

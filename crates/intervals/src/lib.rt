@@ -3,7 +3,7 @@ ghost use mathlib.Core.Path.{_≡_};
 ghost use mathlib.Core.Bool.{_&&_};
 ghost use Prim.Native.Nat.{_≤_};
 ghost use Rattle.numbers.specs.Limits.{limit};
-ghost use lib.IntN.{pos, natAbs};
+ghost use lib.IntN.{pos, negℤ, natAbs};
 ghost use Rattle.numbers.specs.Whole as Whole;
 ghost use Rattle.language.specs.Syntax as Syntax;
 ghost use Rattle.language.specs.Meaning as Meaning;
@@ -112,30 +112,31 @@ fn largest(i: Ends) -> i64
     greatest(magnitude(i.low), magnitude(i.high))
 }
 
-pub fn quotients(i: Ends, j: Ends) -> Ends
-    requires { ⌜ Small i ⌝ }
-    ensures { λ r. ⌜ span r ≡ Bounds.divideInterval Syntax.quot (span i) (span j) ⌝ }
+// −m..m.
+fn around(m: i64) -> Ends
+    requires { ⌜ natAbs m ≤ limit ⌝ }
+    ensures { λ r. ⌜ span r ≡ Bounds._to_ (negℤ m) m ⌝ }
 {
-    let m = largest(i);
     Ends {
         low: 0 - m,
         high: m,
     }
 }
 
+pub fn quotients(i: Ends, j: Ends) -> Ends
+    requires { ⌜ Small i ⌝ }
+    ensures { λ r. ⌜ span r ≡ Bounds.divideInterval Syntax.quot (span i) (span j) ⌝ }
+{
+    around(largest(i))
+}
+
+// "−k..k with k = max(0, m−1)", m the divisor's largest magnitude.
 pub fn remainders(i: Ends, j: Ends) -> Ends
     requires { ⌜ Small j ⌝ }
     ensures { λ r. ⌜ span r ≡ Bounds.divideInterval Syntax.rem (span i) (span j) ⌝ }
 {
     let m = largest(j);
-    if m < 1 {
-        Ends { low: 0, high: 0 }
-    } else {
-        Ends {
-            low: 0,
-            high: m - 1,
-        }
-    }
+    around(greatest(0, m - 1))
 }
 
 pub fn negated(i: Ends) -> Ends

@@ -95,7 +95,7 @@ seven = constant (pos 7)
 abbrev minus-two : IExp ⊥
 minus-two = constant (negsuc 1)
 
--- every operator on 7 and −2 both ways; each value belongs to one operator alone
+-- every operator on 7 and −2 both ways; no two operators give the same two values
 calculations : List Worked
 calculations =
     worked seven (pos 7)
@@ -114,7 +114,7 @@ calculations =
     ∷ worked (divide quot seven minus-two) (negsuc 2)
     ∷ worked (divide quot minus-two seven) (pos 0)
     ∷ worked (divide rem seven minus-two) (pos 1)
-    ∷ worked (divide rem minus-two seven) (pos 5)
+    ∷ worked (divide rem minus-two seven) (negsuc 1)
     ∷ worked (negate seven) (negsuc 6)
     ∷ worked (negate minus-two) (pos 2)
     ∷ worked (boolToInt (variableB 1)) (pos 0)

@@ -1,15 +1,15 @@
--- The test for the same number, magnitudes, and the bounds of quotient and remainder.
-use mathlib.Core.Path.{_≡_, refl, ap}
-use Prim.Native.Nat.{ℕ, zero, suc, _-_, _≤_, _<_}
+-- The test for the same number, magnitudes, the bounds of quotient and remainder, and that a is b times (a div b) plus (a mod b).
+use mathlib.Core.Path.{_≡_, refl, ap, _∙_}
+use Prim.Native.Nat.{ℕ, zero, suc, _+_, _*_, _/_, _%_, _≤_, _<_}
 use native.Mathlib.Omega.{arith}
-use native.Mathlib.Nat.{div-le-self, mod-lt}
-use mathlib.Core.Bool.{not, cond}
+use native.Mathlib.Nat.{div-le-self, mod-le, mod-lt, mod-add-div}
+use mathlib.Core.Bool.{not}
 use lib.Dec.{T, eqb→eq, eqb-refl, leb→le, le→leb}
-use lib.IntN.{ℤ, pos, negsuc, negℤ, _+ℤ_, natAbs}
-use lib.Signed.{nonNeg, remZ, _≤ℤ_}
+use lib.IntN.{ℤ, pos, negsuc, negℤ, _+ℤ_, _*ℤ_, natAbs, *ℤ-zero, negℤ-+ℤ}
+use lib.Signed.{_≤ℤ_}
 use Rattle.numbers.specs.Limits.{limit}
 use Rattle.numbers.specs.Whole.{eqZ, quotient, remainder, withinLimit}
-use Rattle.numbers.proofs.Parts.{+-parts, up-neg, dn-neg, natAbs-parts, ≤→parts, parts→≤}
+use Rattle.numbers.proofs.Parts.{up-neg, dn-neg, natAbs-parts, ≤→parts, parts→≤}
 
 -- ---- the same number
 
@@ -70,27 +70,48 @@ natAbs-positive (pos zero) t = absurd t
 natAbs-positive (pos (suc n)) t = omega arith
 natAbs-positive (negsuc n) t = omega arith
 
--- What the quotient cut toward zero leaves is of less magnitude than the divisor.
-natAbs-remZ-< : (a b : ℤ) → T (not (eqZ b (pos 0))) → natAbs (remZ a b) < natAbs b
-natAbs-remZ-< (pos a) b t = mod-lt a (natAbs-positive b t)
-natAbs-remZ-< (negsuc a) b t = rw natAbs-neg (mod-lt (suc a) (natAbs-positive b t))
-
--- A number of magnitude below m, and m more where it is negative, is at least 0.
-lifted-≥0 : (w : ℤ) {m : ℕ} → natAbs w < m → pos 0 ≤ℤ cond (nonNeg w) w (w +ℤ pos m)
-lifted-≥0 (pos n) h = parts→≤ (pos 0) (pos n) (omega arith)
-lifted-≥0 (negsuc n) {m} h = parts→≤ (pos 0) (negsuc n +ℤ pos m) (omega (arith, +-parts (negsuc n) (pos m)))
-
--- And it is at most m − 1.
-lifted-≤ : (w : ℤ) {m : ℕ} → natAbs w < m → cond (nonNeg w) w (w +ℤ pos m) ≤ℤ pos (m - 1)
-lifted-≤ (pos n) {m} h = parts→≤ (pos n) (pos (m - 1)) (omega arith)
-lifted-≤ (negsuc n) {m} h = parts→≤ (negsuc n +ℤ pos m) (pos (m - 1)) (omega (arith, +-parts (negsuc n) (pos m)))
-
--- "mod is the remainder in 0 to |b|−1": it is at least 0.
-pub remainder-≥0 : (a b : ℤ) → T (not (eqZ b (pos 0))) → pos 0 ≤ℤ remainder a b
+-- The remainder is of less magnitude than the divisor.
+pub natAbs-remainder-< : (a b : ℤ) → T (not (eqZ b (pos 0))) → natAbs (remainder a b) < natAbs b
 unfolding remainder
-remainder-≥0 a b t = lifted-≥0 (remZ a b) (natAbs-remZ-< a b t)
+natAbs-remainder-< (pos a) b t = mod-lt a (natAbs-positive b t)
+natAbs-remainder-< (negsuc a) b t = rw natAbs-neg (mod-lt (suc a) (natAbs-positive b t))
 
--- And it is at most |b| − 1.
-pub remainder-≤ : (a b : ℤ) → T (not (eqZ b (pos 0))) → remainder a b ≤ℤ pos (natAbs b - 1)
+-- It is not below 0 where the dividend is not,
+pub remainder-≥0 : (a b : ℤ) → pos 0 ≤ℤ a → pos 0 ≤ℤ remainder a b
 unfolding remainder
-remainder-≤ a b t = lifted-≤ (remZ a b) (natAbs-remZ-< a b t)
+remainder-≥0 (pos a) b h = parts→≤ (pos 0) (pos (a % natAbs b)) (omega arith)
+remainder-≥0 (negsuc a) b h = absurd (h .le)
+
+-- and not above 0 where the dividend is not.
+pub remainder-≤0 : (a b : ℤ) → a ≤ℤ pos 0 → remainder a b ≤ℤ pos 0
+unfolding remainder
+remainder-≤0 (pos a) b h = parts→≤ (pos (a % natAbs b)) (pos 0) (omega (arith, ≤→parts (pos a) (pos 0) h, mod-le a (natAbs b)))
+remainder-≤0 (negsuc a) b h = parts→≤ (negℤ (pos (suc a % natAbs b))) (pos 0) (omega (arith, up-neg (pos (suc a % natAbs b))))
+
+-- ---- the identity
+
+-- That of natural numbers.
+divided-ℕ : (m n : ℕ) → m ≡ n * (m / n) + m % n
+divided-ℕ m n = omega (arith, mod-add-div m n)
+
+-- Below zero.
+below-zero : (m n : ℕ) → negℤ (pos m) ≡ negℤ (pos (n * (m / n))) +ℤ negℤ (pos (m % n))
+below-zero m n = ap (λ k. negℤ (pos k)) (divided-ℕ m n) ∙ negℤ-+ℤ (pos (n * (m / n))) (pos (m % n))
+
+-- A factor that is not above 0, behind one that is not below 0,
+pos-*-neg : (b q : ℕ) → pos b *ℤ negℤ (pos q) ≡ negℤ (pos (b * q))
+pos-*-neg b zero = let e : 0 ≡ b * 0 = omega arith in *ℤ-zero (pos b) ∙ ap (λ n. negℤ (pos n)) e
+pos-*-neg b (suc q) = refl
+
+-- and behind one that is below 0.
+negsuc-*-neg : (b q : ℕ) → negsuc b *ℤ negℤ (pos q) ≡ pos (suc b * q)
+negsuc-*-neg b zero = *ℤ-zero (negsuc b) ∙ ap pos (omega arith)
+negsuc-*-neg b (suc q) = refl
+
+-- "a is always b times (a div b) plus (a mod b)"
+pub divided : (a b : ℤ) → T (not (eqZ b (pos 0))) → a ≡ (b *ℤ quotient a b) +ℤ remainder a b
+unfolding quotient remainder
+divided (pos a) (pos b) t = ap pos (divided-ℕ a b)
+divided (pos a) (negsuc b) t = rw (negsuc-*-neg b (a / suc b)) (ap pos (divided-ℕ a (suc b)))
+divided (negsuc a) (pos b) t = rw (pos-*-neg b (suc a / b)) (below-zero (suc a) b)
+divided (negsuc a) (negsuc b) t = below-zero (suc a) (suc b)

@@ -2,8 +2,8 @@
 -- The integers, their sum, difference and product, and the tests `leZ` and `ltZ` are the library's.
 use mathlib.Core.Bool.{Bool, false, cond, _&&_}
 use lib.Dec.{eqb, leb}
-use lib.IntN.{ℤ, pos, negsuc, _+ℤ_, natAbs}
-use lib.Signed.{leZ, nonNeg, quotZ, remZ}
+use lib.IntN.{ℤ, pos, negsuc, natAbs}
+use lib.Signed.{leZ, quotZ, remZ}
 use Rattle.numbers.specs.Limits.{limit}
 
 -- the same number
@@ -28,10 +28,10 @@ between low high z = leZ low z && leZ z high
 unfoldable pub quotient : ℤ → ℤ → ℤ
 quotient a b = quotZ a b
 
--- "mod is the remainder in 0 to |b|−1: −7 mod 2 is 1, also for divisor −2": what the quotient cut toward zero leaves, and |b|
--- more where that is negative.
+-- "MiniZinc gives the remainder the sign of the dividend": −7 mod 2 is −1, and 7 mod −2 is 1. It is what the quotient cut toward zero leaves: "a is always b
+-- times (a div b) plus (a mod b)". Only a divisor other than 0 is asked for.
 unfoldable pub remainder : ℤ → ℤ → ℤ
-remainder a b = cond (nonNeg (remZ a b)) (remZ a b) (remZ a b +ℤ pos (natAbs b))
+remainder a b = remZ a b
 
 -- within "±2,000,000,000"
 unfoldable pub withinLimit : ℤ → Bool

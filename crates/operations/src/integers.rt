@@ -103,19 +103,12 @@ fn quotient(x: i32, y: i32) -> i64
     with_sign(negative, q)
 }
 
-// "mod is the remainder in 0 to |b|−1": what the machine's remainder leaves, and |b| more where that is negative.
+// "The remainder has the dividend's sign", as the machine's has; 64 bits hold the quotient of −2^31 and −1, which the machine works out beside it.
 fn remainder(x: i32, y: i32) -> i64
     requires { ⌜ eqZ y (pos 0) ≡ false ⌝ }
     ensures { λ r. ⌜ r ≡ whole.remainder x y ⌝ }
 {
-    let r = x as i64 % y as i64;
-    if 0 <= r {
-        r
-    } else if y < 0 {
-        r - y as i64
-    } else {
-        r + y as i64
-    }
+    x as i64 % y as i64
 }
 
 // The remainder or the quotient.

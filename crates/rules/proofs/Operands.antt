@@ -1,22 +1,20 @@
 -- Operands that may be undefined: where an operation on them is defined, and that V, which always has a value, agrees with it there. For a
 -- quotient V has a corrected divisor, and stays in the interval.
 use mathlib.Core.Path.{_≡_, refl}
-use Prim.Native.Nat.{_-_, _≤_}
+use Prim.Native.Nat.{ℕ, _-_, _≤_}
 use native.Mathlib.Omega.{arith}
 use native.Mathlib.Nat.{le-trans}
 use mathlib.Core.Bool.{Bool, true, false, not, cond, _&&_}
 use mathlib.Core.Option.{Option, none, some, Option·map}
 use lib.Dec.{T}
 use lib.IntN.{ℤ, pos, _+ℤ_, natAbs, +ℤ-idr}
-use Rattle.numbers.specs.Whole.{eqZ, quotient}
+use Rattle.numbers.specs.Whole.{eqZ, quotient, remainder}
 use Rattle.numbers.proofs.Tests.{T→≡true, Tnot→≡false}
-use Rattle.numbers.proofs.Parts.{parts→≤}
-use Rattle.numbers.proofs.Order.{≤-trans}
-use Rattle.numbers.proofs.Division.{eqZ→≡, natAbs→≥, natAbs→≤, natAbs-quotient-≤, remainder-≥0, remainder-≤}
+use Rattle.numbers.proofs.Division.{eqZ→≡, natAbs→≥, natAbs→≤, natAbs-quotient-≤, natAbs-remainder-<}
 use Rattle.language.specs.Syntax.{Division, quot, rem}
 use Rattle.language.specs.Readings.{both, part, division}
 use Rattle.language.specs.Meaning.{number}
-use Rattle.rules.specs.Bounds.{Interval, magnitude, divideInterval}
+use Rattle.rules.specs.Bounds.{Interval, magnitude, around, divideInterval}
 use Rattle.rules.specs.Soundness.{Within}
 use Rattle.rules.specs.TotalRows.{defined}
 use Rattle.rules.proofs.Intervals.{natAbs-≤-magnitude}
@@ -80,17 +78,17 @@ corrected-≢0 y = corrected-cases (λ z. T (not (eqZ z (pos 0)))) y (λ t. tt) 
 corrected-magnitude : {j : Interval} (y : ℤ) → Within j y → natAbs (corrected y) - 1 ≤ magnitude j - 1
 corrected-magnitude {j} y w = corrected-cases (λ z. natAbs z - 1 ≤ magnitude j - 1) y (λ t. omega arith) (λ t. omega (arith, natAbs-≤-magnitude y w))
 
--- "div −M..M with M the largest magnitude of the left operand; mod 0..max(0, m−1) with m the divisor's largest magnitude"
+-- A number of magnitude at most m is in −m..m.
+around-within : (z : ℤ) {m : ℕ} → natAbs z ≤ m → Within (around m) z
+unfolding around
+around-within z h = record { above = natAbs→≥ z h; below = natAbs→≤ z h }
+
+-- Quotient and remainder are in the interval.
 pub divide-within : (op : Division) {i j : Interval} {x y : ℤ} → Within i x → Within j y → Within (divideInterval op i j) (part op x (corrected y))
 unfolding divideInterval part
-divide-within quot {i} {x = x} {y = y} v w =
-    let h : natAbs (quotient x (corrected y)) ≤ magnitude i = le-trans (natAbs-quotient-≤ x (corrected y)) (natAbs-≤-magnitude x v) in
-    record { above = natAbs→≥ (quotient x (corrected y)) h; below = natAbs→≤ (quotient x (corrected y)) h }
-divide-within rem {j = j} {x = x} {y = y} v w =
-    record {
-      above = remainder-≥0 x (corrected y) (corrected-≢0 y);
-      below = ≤-trans (remainder-≤ x (corrected y) (corrected-≢0 y)) (parts→≤ (pos (natAbs (corrected y) - 1)) (pos (magnitude j - 1)) (omega (arith, corrected-magnitude y w)));
-    }
+divide-within quot {x = x} {y = y} v w = around-within (quotient x (corrected y)) (le-trans (natAbs-quotient-≤ x (corrected y)) (natAbs-≤-magnitude x v))
+divide-within rem {x = x} {y = y} v w =
+    around-within (remainder x (corrected y)) (omega (arith, natAbs-remainder-< x (corrected y) (corrected-≢0 y), corrected-magnitude y w))
 
 -- ---- "div and mod by 0 .. are undefined"
 

@@ -178,7 +178,7 @@ bounds-declared =
     }
 
 intervalOf : IExp ⊥ → Interval
-unfolding interval Bounds.magnitude Bounds.hull Bounds.only Bounds.products Bounds.arithInterval Bounds.divideInterval Bounds.slotInterval Bounds.noVariable Bounds.variableAt Bounds.variableInterval Bounds.elementInterval Bounds.hullWith Bounds.elementsInterval Whole.least Whole.greatest Meaning.slotAt Meaning.arrayAt Meaning.count Meaning.noSlot Meaning.noArray
+unfolding interval Bounds.magnitude Bounds.hull Bounds.only Bounds.products Bounds.arithInterval Bounds.around Bounds.divideInterval Bounds.slotInterval Bounds.noVariable Bounds.variableAt Bounds.variableInterval Bounds.elementInterval Bounds.hullWith Bounds.elementsInterval Whole.least Whole.greatest Meaning.slotAt Meaning.arrayAt Meaning.count Meaning.noSlot Meaning.noArray
 intervalOf e = interval bounds-declared e
 
 record Bound : Type 0 where
@@ -200,6 +200,9 @@ c = variable 2
 abbrev z : IExp ⊥
 z = variable 3
 
+abbrev minus-one : IExp ⊥
+minus-one = constant (negsuc 0)
+
 bounds : List Bound
 bounds =
     bound (constant (negsuc 8)) (negsuc 8) (negsuc 8)
@@ -216,8 +219,10 @@ bounds =
     ∷ bound (arith maximum a b) (pos 2) (pos 5)
     ∷ bound (divide quot c b) (negsuc 5) (pos 6)
     ∷ bound (divide quot b c) (negsuc 3) (pos 4)
-    ∷ bound (divide rem a c) (pos 0) (pos 5)
-    ∷ bound (divide rem a b) (pos 0) (pos 3)
+    ∷ bound (divide rem a c) (negsuc 4) (pos 5)
+    ∷ bound (divide rem a b) (negsuc 2) (pos 3)
+    ∷ bound (divide rem b c) (negsuc 4) (pos 5)
+    ∷ bound (divide rem a minus-one) (pos 0) (pos 0)
     ∷ bound (divide rem a z) (pos 0) (pos 0)
     ∷ bound (negate a) (negsuc 4) (pos 3)
     ∷ bound (boolToInt (truth true)) (pos 0) (pos 1)

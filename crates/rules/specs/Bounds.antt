@@ -44,10 +44,15 @@ arithInterval times i j = products i j
 arithInterval minimum i j = Whole.least (i .low) (j .low) to Whole.least (i .high) (j .high)
 arithInterval maximum i j = Whole.greatest (i .low) (j .low) to Whole.greatest (i .high) (j .high)
 
--- "div −M..M with M the largest magnitude of the left operand; mod 0..max(0, m−1) with m the divisor's largest magnitude"
+-- −m..m
+unfoldable pub around : ℕ → Interval
+around m = negℤ (pos m) to pos m
+
+-- "div −M..M with M the largest magnitude of the left operand"; "the mod interval becomes −k..k with k = max(0, m−1)", with m the divisor's largest
+-- magnitude
 unfoldable pub divideInterval : Division → Interval → Interval → Interval
-divideInterval quot i j = negℤ (pos (magnitude i)) to pos (magnitude i)
-divideInterval rem i j = pos 0 to pos (magnitude j - 1)
+divideInterval quot i j = around (magnitude i)
+divideInterval rem i j = around (magnitude j - 1)
 
 -- "slot its range (x..x if empty)"
 unfoldable pub slotInterval : Slot → Interval

@@ -56,6 +56,14 @@ operations =
     ∷ [])
     (16 ∷ 17 ∷ 18 ∷ 19 ∷ 20 ∷ 21 ∷ 22 ∷ []) [] (all 7 1) (all 7 1) (all 7 1) 35
 
+-- Kinds 9 and 10 on −7 and 2, 7 and −2, −7 and −2: −3, −3, 3, and −1, 1, −1
+signs : Sample
+signs =
+    sample []
+    (number 7 ∷ number 2 ∷ node 11 0 0 ∷ node 11 1 0 ∷ number 3 ∷ node 11 4 0 ∷ number 1 ∷ node 11 6 0 ∷ node 9 2 1 ∷ node 9 0 3 ∷ node 9 2 3 ∷ node 10 2 1
+    ∷ node 10 0 3 ∷ node 10 2 3 ∷ node 25 8 5 ∷ node 25 9 5 ∷ node 25 10 4 ∷ node 25 11 7 ∷ node 25 12 6 ∷ node 25 13 7 ∷ [])
+    (14 ∷ 15 ∷ 16 ∷ 17 ∷ 18 ∷ 19 ∷ []) [] (all 6 1) (all 6 1) (all 6 1) 42
+
 -- (1 div 0) op 1 = 1 and 1 op (1 div 0) = 1 for the same kinds
 abbrev undefined-operand : ℕ → ℕ → Sample
 undefined-operand x y =
@@ -125,6 +133,32 @@ numbers-looked-up =
     (undefined ++ (number 2 ∷ number 3 ∷ number 4 ∷ number 5 ∷ number 9 ∷ node 15 1 0 ∷ node 15 1 3 ∷ node 15 1 4 ∷ node 15 1 1 ∷ node 15 1 5 ∷ node 15 1 2
     ∷ node 25 8 5 ∷ node 25 9 6 ∷ node 25 10 7 ∷ node 25 11 5 ∷ node 25 12 5 ∷ node 25 13 5 ∷ []))
     (14 ∷ 15 ∷ 16 ∷ 17 ∷ 18 ∷ 19 ∷ []) (pos 0 ∷ pos 5 ∷ []) (1 ∷ 1 ∷ 1 ∷ 2 ∷ 2 ∷ 2 ∷ []) (1 ∷ 1 ∷ 1 ∷ 2 ∷ 2 ∷ 2 ∷ []) (1 ∷ 1 ∷ 1 ∷ 0 ∷ 0 ∷ 0 ∷ []) 26
+
+-- A remainder as an index: an array of 5, 6, 7, 8 from index 0 on, and whether element x mod 4 is 5, and whether it is not; at values of x
+abbrev offset-at : ℤ → List ℕ → List ℕ → List ℕ → Sample
+offset-at x s k r =
+    sample
+    (at VR 1 (negsuc 7) (pos 8)
+    ∷ at AR 1 (pos 0) (pos 4)
+    ∷ at EL 0 (pos 5) (pos 0)
+    ∷ at EL 0 (pos 6) (pos 0)
+    ∷ at EL 0 (pos 7) (pos 0)
+    ∷ at EL 0 (pos 8) (pos 0)
+    ∷ [])
+    (node 3 0 0 ∷ number 4 ∷ node 10 0 1 ∷ node 15 0 2 ∷ number 5 ∷ node 25 3 4 ∷ node 24 5 0 ∷ []) (5 ∷ 6 ∷ []) (x ∷ []) s k r 13
+
+-- 0 and 3 at 8 and 7, 0 also at −4; at −1 the index is −1, which is outside
+offset-at-8 : Sample
+offset-at-8 = offset-at (pos 8) (1 ∷ 0 ∷ []) (1 ∷ 0 ∷ []) (1 ∷ 0 ∷ [])
+
+offset-at-7 : Sample
+offset-at-7 = offset-at (pos 7) (0 ∷ 1 ∷ []) (0 ∷ 1 ∷ []) (0 ∷ 1 ∷ [])
+
+offset-at-minus-4 : Sample
+offset-at-minus-4 = offset-at (negsuc 3) (1 ∷ 0 ∷ []) (1 ∷ 0 ∷ []) (1 ∷ 0 ∷ [])
+
+offset-at-minus-1 : Sample
+offset-at-minus-1 = offset-at (negsuc 0) (2 ∷ 2 ∷ []) (2 ∷ 2 ∷ []) (0 ∷ 1 ∷ [])
 
 -- ---- Boolean kinds
 
@@ -204,6 +238,7 @@ over-three = ranged 2 12 (1 ∷ 0 ∷ 2 ∷ 2 ∷ 1 ∷ []) (1 ∷ 0 ∷ 1 ∷ 0
 samples : List Sample
 samples =
     operations
+    ∷ signs
     ∷ undefined-left
     ∷ undefined-right
     ∷ negations
@@ -212,6 +247,10 @@ samples =
     ∷ variables-at-1
     ∷ truths-looked-up
     ∷ numbers-looked-up
+    ∷ offset-at-8
+    ∷ offset-at-7
+    ∷ offset-at-minus-4
+    ∷ offset-at-minus-1
     ∷ conjunctions
     ∷ disjunctions
     ∷ implications
@@ -252,5 +291,5 @@ expected r =
     (r .strict ∷ r .kleene ∷ r .relational ∷ [])
 
 samples-hold : map found samples ≡ map expected samples
-unfolding samples found expected operations undefined-left undefined-right negations numbers-of-truths variables-at-0 variables-at-1 truths-looked-up numbers-looked-up conjunctions disjunctions implications equivalences opposites equalities inequalities orders strict-orders over-none over-one over-three
+unfolding samples found expected operations signs undefined-left undefined-right negations numbers-of-truths variables-at-0 variables-at-1 truths-looked-up numbers-looked-up offset-at-8 offset-at-7 offset-at-minus-4 offset-at-minus-1 conjunctions disjunctions implications equivalences opposites equalities inequalities orders strict-orders over-none over-one over-three
 samples-hold = refl

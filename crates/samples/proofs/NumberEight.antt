@@ -1,12 +1,16 @@
--- Number 8 of evaluation on bytes: "an integer node met with a value beyond it", at each place where a walk goes; and where it does not go. Rows of one
--- table, and one claim about all of them.
+-- Number 8 on bytes. Of evaluation: "an integer node met with a value beyond it", at each place where a walk goes; and where it does not go. Of
+-- translation: above a remainder. Each is rows of one table, and one claim about all of them.
 use mathlib.Core.Path.{_≡_, refl}
 use Prim.Native.Nat.{ℕ}
+use mathlib.Core.Bool.{false}
 use mathlib.Core.List.{List, [], _∷_, _++_, map}
 use lib.IntN.{ℤ, pos}
 use Rattle.table.specs.Records.{VR, SL, AR, EL, ND, CN}
-use Rattle.answers.proofs.Computed.{evaluated}
+use Rattle.answers.specs.Answers.{Answer}
+use Rattle.answers.proofs.Computed.{evaluated, translated}
 use Rattle.answers.proofs.TrialRecords.{at, headed}
+
+-- ---- evaluation
 
 -- Nodes, behind what every table here declares, with one constraint; the value of the one variable; the number of the answer under strict (the other readings
 -- meet the same: language/proofs/MetTrials.antt).
@@ -92,3 +96,37 @@ table m = headed (declared ++ (m .nodes ++ (at CN 0 (pos (m .constraint)) (pos 0
 meetings-hold : map (λ m. evaluated 1 (table m) (m .value ∷ []) 100 (9 ∷ []) .answer .number) meetings ≡ map (λ m. m .number) meetings
 unfolding meetings table evaluated
 meetings-hold = refl
+
+-- ---- translation
+
+-- "Number 8 may now be given earlier in a table for nodes above a mod": x mod a divisor, less a number, as record 6, with x in 0..10; and 2,000,000,001 as
+-- record 7. A remainder's interval goes as far below 0 as above it, though no x here is below 0.
+record Difference : Type 0 where
+  divisor : ℕ
+  less : ℕ
+  refused-at : ℕ
+
+abbrev difference : ℕ → ℕ → ℕ → Difference
+difference d n r = record { divisor = d; less = n; refused-at = r }
+
+differences : List Difference
+differences =
+    difference 2000000000 2 6
+    ∷ difference 2000000000 1 7
+    ∷ difference 1999999999 3 6
+    ∷ difference 1999999999 2 7
+    ∷ difference 1 2000000000 7
+    ∷ []
+
+difference-table : Difference → List ℕ
+unfolding at headed
+difference-table d =
+    headed
+    (at VR 1 (pos 0) (pos 10) ∷ node 3 0 0 ∷ node 1 (d .divisor) 0 ∷ node 10 0 1 ∷ node 1 (d .less) 0 ∷ node 7 2 3 ∷ node 1 2000000001 0 ∷ [])
+
+refused-8 : ℕ → Answer
+refused-8 r = record { number = 8; at = r; steps = 0; length-written = 0; all-true = false }
+
+differences-hold : map (λ d. translated 1 (difference-table d) [] .answer) differences ≡ map (λ d. refused-8 (d .refused-at)) differences
+unfolding differences difference-table refused-8 translated
+differences-hold = refl

@@ -73,7 +73,10 @@ fn arithmetic(kind: u8, a: Interval, b: Interval) -> Interval {
             (least, most)
         }
         9 => (-magnitude(a), magnitude(a)),
-        10 => (0, (magnitude(b) - 1).max(0)),
+        10 => {
+            let most = (magnitude(b) - 1).max(0);
+            (-most, most)
+        }
         12 => (a.0.min(b.0), a.1.min(b.1)),
         _ => (a.0.max(b.0), a.1.max(b.1)),
     }

@@ -47,7 +47,7 @@ nodes! {
     multiply = 8 (a, b);
     /// The quotient of a and b, cut toward zero.
     div = 9 (a, b);
-    /// The remainder of a and b, from 0 to |b| − 1.
+    /// The remainder of a and b, with the sign of a.
     modulo = 10 (a, b);
     /// −a.
     negate = 11 (a);

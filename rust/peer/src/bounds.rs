@@ -124,7 +124,10 @@ fn arithmetic(kind: u8, a: Interval, b: Interval) -> Interval {
                 })
         }
         kinds::DIV => Interval::new(-a.largest_magnitude(), a.largest_magnitude()),
-        kinds::MOD => Interval::new(0, (b.largest_magnitude() - 1).max(0)),
+        kinds::MOD => {
+            let most = (b.largest_magnitude() - 1).max(0);
+            Interval::new(-most, most)
+        }
         kinds::MIN => Interval::new(a.low.min(b.low), a.high.min(b.high)),
         _ => Interval::new(a.low.max(b.low), a.high.max(b.high)),
     }

@@ -257,7 +257,7 @@ fn arithmetic(kind: u8, left: i64, right: i64) -> Option<i64> {
         kinds::SUBTRACT => Some(left - right),
         kinds::MULTIPLY => Some(left * right),
         kinds::DIV => left.checked_div(right),
-        kinds::MOD => left.checked_rem_euclid(right),
+        kinds::MOD => left.checked_rem(right),
         kinds::MIN => Some(left.min(right)),
         _ => Some(left.max(right)),
     }

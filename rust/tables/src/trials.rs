@@ -96,13 +96,13 @@ pub fn p7() -> Table {
         .constraint(4)
 }
 
-/// −7 mod 2 equals 1.
+/// −7 mod 2 equals −1.
 pub fn p8() -> Table {
     Table::new()
         .node(Node::constant(-7))
         .node(Node::constant(2))
         .node(Node::modulo(0, 1))
-        .node(Node::constant(1))
+        .node(Node::constant(-1))
         .node(Node::equal(2, 3))
         .constraint(4)
 }

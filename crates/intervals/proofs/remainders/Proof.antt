@@ -1,22 +1,31 @@
 -- `intervals::remainders` meets its contract.
-use Rattle.intervals.proofs.Spans.{magnitude-≤, none-left, one-less-fits, remainders-span}
+use mathlib.Core.Path.{_∙_}
 use Rattle.rules.specs.Bounds.{divideInterval}
+use Rattle.intervals.proofs.Spans.{magnitude-≤, held-within, held-around, one-less-fits, one-less, one-less-≤}
 use Rattle.intervals.proofs.remainders.Statement.{statement}
 use Rattle.intervals.proofs.remainders.Tie as tie
 
 largest-requires : tie.Need-largest-requires
 largest-requires c κs = c .pre
 
-sub-t6 : tie.Need-sub-t6
-sub-t6 c = one-less-fits (magnitude-≤ (c .before .before .args .j) (c .before .before .pre)) (c .before .largest .ensures) (c .if1 .left)
+sub-greatest : tie.Need-sub-greatest
+sub-greatest c = let s = c .before in one-less-fits (magnitude-≤ (s .args .j) (s .pre)) (c .largest .ensures)
+
+greatest-requires : tie.Need-greatest-requires
+greatest-requires c κs = tt
+
+around-requires : tie.Need-around-requires
+around-requires c κs =
+    let s = c .before .before in
+    let h = magnitude-≤ (s .args .j) (s .pre) in
+    held-within (one-less-≤ h) (one-less h (c .before .largest .ensures) (c .greatest .ensures))
 
 returns : tie.Need-returns
 unfolding divideInterval
-returns c = none-left (magnitude-≤ (c .before .before .args .j) (c .before .before .pre)) (c .before .largest .ensures) (c .if1 .taken)
-
-returns-2 : tie.Need-returns-2
-unfolding divideInterval
-returns-2 c = remainders-span (magnitude-≤ (c .before .before .args .j) (c .before .before .pre)) (c .before .largest .ensures) (c .if1 .left)
+returns c =
+    let s = c .before .before .before in
+    let h = magnitude-≤ (s .args .j) (s .pre) in
+    c .around .ensures ∙ held-around (one-less-≤ h) (one-less h (c .before .before .largest .ensures) (c .before .greatest .ensures))
 
 pub remainders-spec : {M : Type 1} → statement M
-remainders-spec = tie.close (tie.spec largest-requires sub-t6 returns returns-2)
+remainders-spec = tie.close (tie.spec largest-requires sub-greatest greatest-requires around-requires returns)

@@ -25,6 +25,7 @@ pub const TRIALS: &[Trial] = trials![
     signs_of_intervals,
     intervals_of_the_rest,
     intervals_of_sums_at_the_limit,
+    intervals_above_a_remainder,
     the_first_interval_beyond_is_reported,
     steps_near_every_budget,
     steps_of_nested_ranges,
@@ -183,7 +184,7 @@ fn values_met_by_operations(calls: &dyn Calls) {
         (Node::multiply(0, 1), LIMIT, LIMIT, true),
         (Node::multiply(0, 1), LIMIT, -LIMIT, true),
         (Node::div(0, 1), -LIMIT, -1, false),
-        (Node::modulo(0, 1), -1, LIMIT, false),
+        (Node::modulo(0, 1), 1 - LIMIT, LIMIT, false),
         (Node::negate(0), -LIMIT, 0, false),
         (Node::max(0, 1), LIMIT, -LIMIT, false),
     ];
@@ -384,6 +385,7 @@ fn intervals_of_binary_operations(calls: &dyn Calls) {
         ((-11, 10), (4, 5), Node::div(0, 1), 11),
         ((-3, 10), (-5, 3), Node::modulo(0, 1), 4),
         ((-3, 10), (-5, 8), Node::modulo(0, 1), 7),
+        ((0, 2), (0, 8), Node::modulo(0, 1), 7),
         ((0, 5), (3, 4), Node::min(0, 1), 4),
         ((3, 4), (0, 5), Node::min(0, 1), 4),
         ((-5, 0), (-4, -3), Node::min(0, 1), 5),
@@ -405,10 +407,10 @@ fn intervals_of_binary_operations(calls: &dyn Calls) {
 }
 
 fn signs_of_intervals(calls: &dyn Calls) {
-    // mod yields 0 and more, div both signs, negate turns the ends round: the
-    // sum with a constant shows which end is where.
+    // div and mod have both signs, negate turns the ends round: the sum with a
+    // constant shows which end is where.
     let cases = [
-        (Node::modulo(0, 1), 0, 4),
+        (Node::modulo(0, 1), -4, 4),
         (Node::div(0, 1), -10, 10),
         (Node::negate(0), -10, 3),
         (Node::subtract(0, 1), -6, 15),
@@ -464,6 +466,28 @@ fn intervals_of_the_rest(calls: &dyn Calls) {
         .node(Node::variable(0))
         .node(Node::sum(0, 0));
     assert_magnitude(calls, &table, 1, 20);
+}
+
+/// x mod a divisor, less a number, with x in 0..10, and a constant beyond the limit behind it.
+fn intervals_above_a_remainder(calls: &dyn Calls) {
+    let cases = [
+        (LIMIT, 1, 5),
+        (LIMIT, 2, 4),
+        (1 - LIMIT, 2, 5),
+        (1 - LIMIT, 3, 4),
+        (1, LIMIT, 5),
+    ];
+    for (divisor, less, node) in cases {
+        let table = Table::new()
+            .variable(0, 10)
+            .node(Node::variable(0))
+            .node(Node::constant(divisor))
+            .node(Node::modulo(0, 1))
+            .node(Node::constant(less))
+            .node(Node::subtract(2, 3))
+            .node(Node::constant(LIMIT + 1));
+        assert_eq!(node_beyond(calls, &table), Some(node), "{divisor}, {less}");
+    }
 }
 
 fn intervals_of_sums_at_the_limit(calls: &dyn Calls) {

@@ -16,6 +16,9 @@ pub const TRIALS: &[Trial] = trials![
     p4_passes_budget_six_and_not_five,
     translation_of_p4,
     division_at_all_signs,
+    the_identity_of_division,
+    a_remainder_as_an_index,
+    a_remainder_that_is_never_negative,
     other_operations,
 ];
 
@@ -107,12 +110,12 @@ fn translation_of_p4(calls: &dyn Calls) {
 }
 
 fn division_at_all_signs(calls: &dyn Calls) {
-    // Dividend, divisor, quotient cut toward zero, remainder from 0 up.
+    // Dividend, divisor, quotient cut toward zero, remainder with the dividend's sign.
     let expected = [
         (7, 2, 3, 1),
         (7, -2, -3, 1),
-        (-7, 2, -3, 1),
-        (-7, -2, 3, 1),
+        (-7, 2, -3, -1),
+        (-7, -2, 3, -1),
         (6, 3, 2, 0),
         (-6, 3, -2, 0),
         (6, -3, -2, 0),
@@ -120,11 +123,11 @@ fn division_at_all_signs(calls: &dyn Calls) {
         (0, 5, 0, 0),
         (0, -5, 0, 0),
         (1, 3, 0, 1),
-        (-1, 3, 0, 2),
-        (-1, -3, 0, 2),
+        (-1, 3, 0, -1),
+        (-1, -3, 0, -1),
         (1, -3, 0, 1),
-        (-8, 5, -1, 2),
-        (-8, -5, 1, 2),
+        (-8, 5, -1, -3),
+        (-8, -5, 1, -3),
         (0, 1, 0, 0),
         (0, -1, 0, 0),
         (1, 1, 1, 0),
@@ -140,12 +143,16 @@ fn division_at_all_signs(calls: &dyn Calls) {
         (-2_000_000_000, 2_000_000_000, -1, 0),
         (-2_000_000_000, -2_000_000_000, 1, 0),
         (2_000_000_000, -1_999_999_999, -1, 1),
-        (-2_000_000_000, 1_999_999_999, -1, 1_999_999_998),
+        (-2_000_000_000, 1_999_999_999, -1, -1),
         (0, 2_000_000_000, 0, 0),
         (0, -2_000_000_000, 0, 0),
         (1, -2_000_000_000, 0, 1),
-        (-1, 2_000_000_000, 0, 1_999_999_999),
-        (-1, -2_000_000_000, 0, 1_999_999_999),
+        (-1, 2_000_000_000, 0, -1),
+        (-1, -2_000_000_000, 0, -1),
+        (1_999_999_999, 2_000_000_000, 0, 1_999_999_999),
+        (1_999_999_999, -2_000_000_000, 0, 1_999_999_999),
+        (-1_999_999_999, 2_000_000_000, 0, -1_999_999_999),
+        (-1_999_999_999, -2_000_000_000, 0, -1_999_999_999),
     ];
     for (a, b, quotient, remainder) in expected {
         for choice in CHOICES {
@@ -158,6 +165,68 @@ fn division_at_all_signs(calls: &dyn Calls) {
                 1
             );
         }
+    }
+}
+
+/// a = b · (a div b) + (a mod b), for every b but 0.
+fn the_identity_of_division(calls: &dyn Calls) {
+    let table = Table::new()
+        .variable(-9, 9)
+        .variable(-4, 4)
+        .node(Node::variable(0))
+        .node(Node::variable(1))
+        .node(Node::div(0, 1))
+        .node(Node::multiply(1, 2))
+        .node(Node::modulo(0, 1))
+        .node(Node::add(3, 4))
+        .node(Node::equal(0, 5))
+        .constraint(6);
+    for choice in CHOICES {
+        let solutions = calls.solutions(choice, &table);
+        assert_eq!(solutions.len(), 19 * 8);
+        assert!(solutions.iter().all(|values| values[1] != 0));
+    }
+}
+
+/// A negative number's remainder is outside an array that begins at 0, unless it is 0.
+fn a_remainder_as_an_index(calls: &dyn Calls) {
+    let table = Table::new()
+        .variable(-5, 5)
+        .constants(0, &[5, 6, 7, 8])
+        .node(Node::variable(0))
+        .node(Node::constant(4))
+        .node(Node::modulo(0, 1))
+        .node(Node::lookup(0, 2))
+        .node(Node::constant(5))
+        .node(Node::equal(3, 4))
+        .node(Node::not(5));
+    let is_five = table.clone().constraint(5);
+    let is_not = table.constraint(6);
+    for choice in CHOICES {
+        assert_eq!(values(calls, choice, &is_five), [-4, 0, 4]);
+    }
+    assert_eq!(values(calls, STRICT, &is_not), [1, 2, 3, 5]);
+    assert_eq!(values(calls, KLEENE, &is_not), [1, 2, 3, 5]);
+    let outside_too = [-5, -3, -2, -1, 1, 2, 3, 5];
+    assert_eq!(values(calls, RELATIONAL, &is_not), outside_too);
+}
+
+/// ((x mod 4) + 4) mod 4 is in 0 to 3.
+fn a_remainder_that_is_never_negative(calls: &dyn Calls) {
+    let table = Table::new()
+        .variable(-9, 9)
+        .variable(-9, 9)
+        .node(Node::variable(0))
+        .node(Node::constant(4))
+        .node(Node::modulo(0, 1))
+        .node(Node::add(2, 1))
+        .node(Node::modulo(3, 1))
+        .node(Node::variable(1))
+        .node(Node::equal(4, 5))
+        .constraint(6);
+    let expected: Vec<Vec<i32>> = (-9..=9).map(|x: i32| vec![x, x.rem_euclid(4)]).collect();
+    for choice in CHOICES {
+        assert_eq!(calls.solutions(choice, &table), expected);
     }
 }
 
