@@ -65,7 +65,7 @@ while [ $# -gt 1 ] && [ "$1" != -o ]; do shift; done
 printf '#!/bin/sh\ncat examples/c/p4.expected\n' >"$2"
 chmod +x "$2"
 END
-    for name in objdump c++ pkg-config; do
+    for name in objdump c++ pkg-config minizinc fzn-gecode; do
         play "$name" </dev/null
     done
     play_rt
