@@ -1,4 +1,5 @@
--- P1 to P9 of document 01, on bytes: rows of one table, and one claim about all of them. And P4's translation under choice 3, with its text.
+-- P1 to P9 of document 01, P8 as request L3 has it, on bytes: rows of one table, and one claim about all of them. And P4's translation under choice 3,
+-- with its text.
 use mathlib.Core.Path.{_≡_, refl}
 use Prim.Native.Nat.{ℕ}
 use mathlib.Core.Bool.{false}
@@ -111,7 +112,7 @@ p7 =
     ∷ 67 ∷ 78 ∷ 0 ∷ 0 ∷ 4 ∷ 0 ∷ 0 ∷ 0 ∷ 0 ∷ 0 ∷ 0 ∷ 0  -- CN 0 0 4 0
     ∷ []
 
--- P8, as request L3 of document 02 has it: −7 mod 2 = −1
+-- P8: −7 mod 2 = −1
 p8 : List ℕ
 p8 =
     72 ∷ 68 ∷ 1 ∷ 0 ∷ 7 ∷ 0 ∷ 0 ∷ 0 ∷ 0 ∷ 0 ∷ 0 ∷ 0  -- HD 1 0 7 0

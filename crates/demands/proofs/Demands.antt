@@ -1,4 +1,4 @@
--- The page's proofs: demands 1, 2 and 3, that each promise allows one answer, and what division gives.
+-- The page's proofs: demands 1, 2 and 3, that each promise allows one answer, and the law of division.
 use mathlib.Core.Path.{_≡_, refl, sym, ap, _∙_}
 use Prim.Native.Nat.{ℕ}
 use mathlib.Core.Bool.{false}
@@ -12,7 +12,7 @@ use Rattle.answers.specs.Check.{first, checkOrder, checkFault}
 use Rattle.answers.specs.Answers.{Outcome, done, outcome, readingChosen, verdicts, evaluateOrder, evaluationDone, translation, translateOrder, translationDone}
 use Rattle.answers.proofs.Faults.{none-orElse}
 use Rattle.answers.proofs.Translatable.{Translatable, none→Translatable}
-use Rattle.demands.specs.Demands.{OneAnswer, Answered, AnsweredWith, Demand1, Evaluated, written, WrittenByRules, Demand2, Demand3, Division}
+use Rattle.demands.specs.Demands.{OneAnswer, Answered, AnsweredWith, Demand1, Evaluated, written, WrittenByRules, Demand2, Demand3, DivisionLaw}
 use Rattle.answers.proofs.Numbers.{upTo, Numbered-check, evaluateOrder-numbered, translateOrder-numbered}
 use Rattle.demands.proofs.Outcomes.{check-is, outcome-answered, number-0→none}
 use Rattle.demands.proofs.TotalTable.{translation-total}
@@ -127,12 +127,12 @@ demand-3 =
 
 -- ---- division
 
-pub division : Division
-division =
+pub division-law : DivisionLaw
+division-law =
     record {
       divided = λ a b t.
           record {
-            identity = divided a b t;
+            identity = divided a b;
             not-below = remainder-≥0 a b;
             not-above = remainder-≤0 a b;
             nearer = natAbs-remainder-< a b t;

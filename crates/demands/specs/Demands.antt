@@ -1,7 +1,8 @@
 -- The page of the three demands: the promise of each public function, and demands 1, 2 and 3, each in the user's words and then as a formal
--- statement about every result that the promise allows; and what request L3 asks of division. The proofs are in proofs/Demands.antt; that useless versions are shut out is in
--- proofs/Useless.antt; that the functions of the code keep these promises and ask nothing is in the crate `promises`. What the statements cite:
--- language/specs (the readings, values, steps), rules/specs (intervals, the rules), answers/specs (the check, the three answers, the listing).
+-- statement about every result that the promise allows; and the law of division that request L3 asks for. The proofs are in proofs/Demands.antt;
+-- that useless versions are shut out is in proofs/Useless.antt; that the functions of the code keep these promises and ask nothing is in the crate
+-- `promises`. What the statements cite: numbers/specs (quotient and remainder), language/specs (the readings, values, steps), rules/specs
+-- (intervals, the rules), answers/specs (the check, the three answers, the listing).
 use mathlib.Core.Path.{_≡_}
 use Prim.Native.Nat.{ℕ, _≤_, _<_}
 use mathlib.Core.Bool.{true, not}
@@ -155,16 +156,16 @@ pub record Demand3 : Type 0 where
 
 -- ---- division
 
--- q and r are what dividing a by b gives.
+-- q and r are quotient and remainder of a and b.
 pub record Divided (a b q r : ℤ) : Type 0 where
   -- "a is always b times (a div b) plus (a mod b)"
   pub identity : a ≡ (b *ℤ q) +ℤ r
-  -- "the sign of the dividend": no remainder lies on the other side of 0
+  -- "the sign of the dividend": the remainder is not on the other side of 0
   pub not-below : pos 0 ≤ℤ a → pos 0 ≤ℤ r
   pub not-above : a ≤ℤ pos 0 → r ≤ℤ pos 0
   -- and it is nearer to 0 than the divisor is
   pub nearer : natAbs r < natAbs b
 
 -- "the identity above is proved for every non-zero b"
-pub record Division : Type 0 where
+pub record DivisionLaw : Type 0 where
   pub divided : (a b : ℤ) → T (not (eqZ b (pos 0))) → Divided a b (quotient a b) (remainder a b)

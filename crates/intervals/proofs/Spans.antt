@@ -110,38 +110,43 @@ pub largest-held : (i : Ends) → Small i → {m n r : ℤ} → SFits w64 m → 
 unfolding magnitude
 largest-held i s p q t e f g = held-both greatest p q t g ∙ rw (e, f, held-small (i .low) (limit-small (i .low) (s .low)), held-small (i .high) (limit-small (i .high) (s .high))) (greatest-pos (natAbs (i .low)) (natAbs (i .high)))
 
--- ---- −m..m
+-- ---- −m..m, and max(0, m − 1)
 
+-- What the code makes of a number within the limit is −m..m.
 pub around-span : (m : ℤ) → natAbs m ≤ limit → (held (pos 0 -ℤ held m) to held m) ≡ (negℤ m to m)
 around-span m h = to-cong (negative-held m h) (held-small m (limit-small m h))
 
--- max(0, m − 1)
+-- max(0, m − 1) is m − 1 over the natural numbers.
 greatest-one-less : (m : ℕ) → greatest (pos 0) (pos m -ℤ pos 1) ≡ pos (m - 1)
 unfolding greatest
 greatest-one-less zero = refl
 greatest-one-less (suc m) =
     rw (parts→≡ (pos (suc m) -ℤ pos 1) (pos (suc m - 1)) (omega (arith, +-parts (pos (suc m)) (negsuc 0)))) (greatest-pos 0 (suc m - 1) ∙ ap pos (omega arith))
 
+-- It is within the limit where m is.
 pub one-less-≤ : {m : ℕ} → m ≤ limit → m - 1 ≤ limit
 one-less-≤ h = omega arith
 
--- What is handed on as a natural number within the limit: the interval around 0 that it makes, and the number that is one less.
+-- A result that is the natural number M, within the limit, is handed on:
 module _ {M : ℕ} {r : ℤ} (h : M ≤ limit) (e : r ≡ pos M) where
   held-is : held r ≡ pos M
   held-is = rw e (held-small (pos M) (limit-small (pos M) h))
 
+  -- it is within the limit,
   pub held-within : natAbs (held r) ≤ limit
   held-within = rw held-is h
 
+  -- it makes the interval −M..M,
   pub held-around : (negℤ (held r) to held r) ≡ around M
   unfolding around
   held-around = rw held-is
 
-  pub one-less-fits : SFits w64 (held r -ℤ pos 1)
-  one-less-fits = rw held-is (natAbs→fits (pos M -ℤ pos 1) (omega (arith, natAbs---≤ (pos M) (pos 1))))
+  -- 1 can be taken from it, and max(0, M − 1) is made of that.
+  pub less-one-fits : SFits w64 (held r -ℤ pos 1)
+  less-one-fits = rw held-is (natAbs→fits (pos M -ℤ pos 1) (omega (arith, natAbs---≤ (pos M) (pos 1))))
 
-  pub one-less : {k : ℤ} → k ≡ greatest (pos 0) (held (held r -ℤ pos 1)) → k ≡ pos (M - 1)
-  one-less g = g ∙ rw (toZ-ofZ one-less-fits, held-is) (greatest-one-less M)
+  pub one-less-or-0 : {k : ℤ} → k ≡ greatest (pos 0) (held (held r -ℤ pos 1)) → k ≡ pos (M - 1)
+  one-less-or-0 g = g ∙ rw (toZ-ofZ less-one-fits, held-is) (greatest-one-less M)
 
 -- ---- slots
 

@@ -88,30 +88,30 @@ unfolding remainder
 remainder-≤0 (pos a) b h = parts→≤ (pos (a % natAbs b)) (pos 0) (omega (arith, ≤→parts (pos a) (pos 0) h, mod-le a (natAbs b)))
 remainder-≤0 (negsuc a) b h = parts→≤ (negℤ (pos (suc a % natAbs b))) (pos 0) (omega (arith, up-neg (pos (suc a % natAbs b))))
 
--- ---- the identity
+-- ---- "a is always b times (a div b) plus (a mod b)"
 
--- That of natural numbers.
+-- For natural numbers,
 divided-ℕ : (m n : ℕ) → m ≡ n * (m / n) + m % n
 divided-ℕ m n = omega (arith, mod-add-div m n)
 
--- Below zero.
-below-zero : (m n : ℕ) → negℤ (pos m) ≡ negℤ (pos (n * (m / n))) +ℤ negℤ (pos (m % n))
-below-zero m n = ap (λ k. negℤ (pos k)) (divided-ℕ m n) ∙ negℤ-+ℤ (pos (n * (m / n))) (pos (m % n))
+-- and for their negatives.
+divided-neg : (m n : ℕ) → negℤ (pos m) ≡ negℤ (pos (n * (m / n))) +ℤ negℤ (pos (m % n))
+divided-neg m n = ap (λ k. negℤ (pos k)) (divided-ℕ m n) ∙ negℤ-+ℤ (pos (n * (m / n))) (pos (m % n))
 
--- A factor that is not above 0, behind one that is not below 0,
+-- A number times the negative of another: where the first is not below 0,
 pos-*-neg : (b q : ℕ) → pos b *ℤ negℤ (pos q) ≡ negℤ (pos (b * q))
 pos-*-neg b zero = let e : 0 ≡ b * 0 = omega arith in *ℤ-zero (pos b) ∙ ap (λ n. negℤ (pos n)) e
 pos-*-neg b (suc q) = refl
 
--- and behind one that is below 0.
+-- and where it is.
 negsuc-*-neg : (b q : ℕ) → negsuc b *ℤ negℤ (pos q) ≡ pos (suc b * q)
 negsuc-*-neg b zero = *ℤ-zero (negsuc b) ∙ ap pos (omega arith)
 negsuc-*-neg b (suc q) = refl
 
--- "a is always b times (a div b) plus (a mod b)"
-pub divided : (a b : ℤ) → T (not (eqZ b (pos 0))) → a ≡ (b *ℤ quotient a b) +ℤ remainder a b
+-- For whole numbers. Nothing is asked of b: what the library gives for n / 0 and n % 0 keeps the law too.
+pub divided : (a b : ℤ) → a ≡ (b *ℤ quotient a b) +ℤ remainder a b
 unfolding quotient remainder
-divided (pos a) (pos b) t = ap pos (divided-ℕ a b)
-divided (pos a) (negsuc b) t = rw (negsuc-*-neg b (a / suc b)) (ap pos (divided-ℕ a (suc b)))
-divided (negsuc a) (pos b) t = rw (pos-*-neg b (suc a / b)) (below-zero (suc a) b)
-divided (negsuc a) (negsuc b) t = below-zero (suc a) (suc b)
+divided (pos a) (pos b) = ap pos (divided-ℕ a b)
+divided (pos a) (negsuc b) = rw (negsuc-*-neg b (a / suc b)) (ap pos (divided-ℕ a (suc b)))
+divided (negsuc a) (pos b) = rw (pos-*-neg b (suc a / b)) (divided-neg (suc a) b)
+divided (negsuc a) (negsuc b) = divided-neg (suc a) (suc b)

@@ -1,4 +1,4 @@
--- Whole numbers: the order as tests, least and greatest, document 01's quotient and remainder, and what is within its limit.
+-- Whole numbers: the order as tests, least and greatest, document 01's quotient, request L3's remainder, and what is within the limit.
 -- The integers, their sum, difference and product, and the tests `leZ` and `ltZ` are the library's.
 use mathlib.Core.Bool.{Bool, false, cond, _&&_}
 use lib.Dec.{eqb, leb}

@@ -103,7 +103,7 @@ fn quotient(x: i32, y: i32) -> i64
     with_sign(negative, q)
 }
 
-// "The remainder has the dividend's sign", as the machine's has; 64 bits hold the quotient of −2^31 and −1, which the machine works out beside it.
+// "MiniZinc gives the remainder the sign of the dividend", and so does the machine; but in 32 bits it stops at −2^31 mod −1, whose quotient has no room.
 fn remainder(x: i32, y: i32) -> i64
     requires { ⌜ eqZ y (pos 0) ≡ false ⌝ }
     ensures { λ r. ⌜ r ≡ whole.remainder x y ⌝ }

@@ -147,7 +147,7 @@ offset-at x s k r =
     ∷ [])
     (node 3 0 0 ∷ number 4 ∷ node 10 0 1 ∷ node 15 0 2 ∷ number 5 ∷ node 25 3 4 ∷ node 24 5 0 ∷ []) (5 ∷ 6 ∷ []) (x ∷ []) s k r 13
 
--- 0 and 3 at 8 and 7, 0 also at −4; at −1 the index is −1, which is outside
+-- the index is 0 at 8 and at −4, 3 at 7, and −1 at −1, which is outside
 offset-at-8 : Sample
 offset-at-8 = offset-at (pos 8) (1 ∷ 0 ∷ []) (1 ∷ 0 ∷ []) (1 ∷ 0 ∷ [])
 

@@ -356,6 +356,17 @@ fn number_8() {
     let expected = "refused 8: a value is beyond ±2000000000; \
                     the first node that can pass the limit is node 1 (record 3)";
     assert_first_line(at(2, &[100_000], 9), &table, expected);
+    let table = Table::new()
+        .variable(0, 10)
+        .node(Node::variable(0))
+        .node(Node::constant(2_000_000_000))
+        .node(Node::modulo(0, 1))
+        .node(Node::constant(2))
+        .node(Node::subtract(2, 3))
+        .bytes();
+    let expected = "refused 8 at record 6 (ND 7, node 4): \
+                    its values lie in -2000000001..1999999997, beyond ±2000000000";
+    assert_first_line(Call::Translate { choice: 1 }, &table, expected);
 }
 
 #[test]

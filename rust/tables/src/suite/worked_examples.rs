@@ -211,7 +211,7 @@ fn a_remainder_as_an_index(calls: &dyn Calls) {
     assert_eq!(values(calls, RELATIONAL, &is_not), outside_too);
 }
 
-/// ((x mod 4) + 4) mod 4 is in 0 to 3.
+/// ((x mod 4) + 4) mod 4 is the remainder that is never negative.
 fn a_remainder_that_is_never_negative(calls: &dyn Calls) {
     let table = Table::new()
         .variable(-9, 9)

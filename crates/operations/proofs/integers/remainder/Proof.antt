@@ -14,10 +14,10 @@ cast-result-2 : tie.Need-cast-result-2
 cast-result-2 c = search (needs, widened)
 
 rem-result : tie.Need-rem-result
-rem-result c = (
-  rw (toZ-ofZ (c .fits .y)) (divisor-bits (c .args .y) (c .fits .y) (c .pre)),
-  result-fits quotZ (c .args .x) (c .args .y) (c .fits .x) (c .fits .y) (quotient-fits (c .args .x) (c .args .y) (c .fits .x)),
-)
+rem-result c =
+    let x = c .args .x in
+    let y = c .args .y in
+    (rw (toZ-ofZ (c .fits .y)) (divisor-bits y (c .fits .y) (c .pre)), result-fits quotZ x y (c .fits .x) (c .fits .y) (quotient-fits x y (c .fits .x)))
 
 returns : tie.Need-returns
 unfolding whole.remainder
