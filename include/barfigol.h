@@ -33,7 +33,10 @@
 #include <stddef.h>
 #include <stdint.h>
 
-/* The version of the library, of this header and of the command. */
+/*
+ * The version of the library, of this header and of the command. Up to 0.1 node kind 10 (mod) was another
+ * remainder; READINGS.md, beside TABLE.md, says what to look for in tables that were written for it.
+ */
 #define BARFIGOL_VERSION "0.2.0"
 #define BARFIGOL_VERSION_MAJOR 0
 #define BARFIGOL_VERSION_MINOR 2
