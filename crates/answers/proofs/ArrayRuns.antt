@@ -6,7 +6,7 @@ use native.Mathlib.Omega.{arith}
 use mathlib.Core.Bool.{Bool, true, false, not}
 use mathlib.Core.List.{List, [], ◌∷◌}
 use mathlib.Core.Option.{none, or_else}
-use lib.Dec.{T, not_t}
+use lib.Dec.{T, not_T}
 use lib.IntN.{nat_abs}
 use lib.ListN.{length, get_or}
 use Rattle.numbers.proofs.Tests.{T→≡true, Tnot→≡false}
@@ -56,7 +56,7 @@ module _ (bs : List ℕ) where
   pub none→ArraysPassed : (more j p : ℕ) → ((k : ℕ) → T (marked bs AR k) → k < p + more) → arrays_fault bs more j p ≡ none
       → ArraysPassed j p (arrays_from bs more p) (arrays_end bs more p)
   unfolding arrays_from arrays_end behind_array
-  none→ArraysPassed zero j p within h = (refl, not_t (marked bs AR p) (λ t. omega (arith, within p t)))
+  none→ArraysPassed zero j p within h = (refl, not_T (marked bs AR p) (λ t. omega (arith, within p t)))
   none→ArraysPassed (suc more) j p within h =
       go (marked bs AR p) refl (none→ArraysPassed more (suc j) (behind_array bs p) (λ k t. further k (within k t)))
     where

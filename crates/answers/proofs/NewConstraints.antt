@@ -44,4 +44,4 @@ module _ (bs : List ℕ) (p : Passed bs) (i : ℕ) (l : i < length (constraints 
     pub P-free : (t : ℕ) → t < slot_count bs → free_b t (tree_b (trees (new_rows ρ Γ (rows bs))) (first_of ρ Γ (rows bs) named)) ≡ false
     P-free t b =
         rw (logical-companions ρ Γ (rows bs) p.well_formed named constraint-node).P_tree
-        (companions_without_B ρ Γ t (tree_b (trees (rows bs)) named) (constraint-free t b)).0.not-Free
+        (companions_without_B ρ Γ t (tree_b (trees (rows bs)) named) (constraint-free t b)).0.not_free

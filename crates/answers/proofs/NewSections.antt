@@ -6,7 +6,7 @@ use native.Mathlib.Omega.{arith}
 use native.Mathlib.Decide.{dec_lt}
 use mathlib.Core.Bool.{true, false, not}
 use mathlib.Core.List.{List}
-use lib.Dec.{T, not_t}
+use lib.Dec.{T, not_T}
 use lib.ListN.{length}
 use Rattle.language.specs.Readings.{Reading}
 use Rattle.language.specs.Tables.{truth_row}
@@ -36,7 +36,7 @@ module _ (bs : List ℕ) (ρ : Reading) where
     -- Behind the last record nothing has a mark.
     pub unmarked_past : (m : Mark) (k : ℕ) → new_count bs ρ ≤ k → T (not (marked new m k))
     unmarked_past m k l =
-        not_t (marked new m k)
+        not_T (marked new m k)
         (λ t.
         let count : record_count new ≡ new_count bs ρ = record_count-translation bs ρ h.passed in
         omega (arith, count, marked→<record_count new m k (rw count (length-translation bs ρ h.passed)) t))

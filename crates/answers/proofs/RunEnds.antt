@@ -6,7 +6,7 @@ use mathlib.Core.List.{List, [], ◌∷◌}
 use Prim.Native.Nat.{ℕ, zero, suc, ◌%◌, ◌≤◌, ◌<◌}
 use native.Mathlib.Nat.{eq-or-lt_of_le, le_refl, lt_irrefl, lt_of_le_of_lt}
 use native.Mathlib.Omega.{arith}
-use lib.Dec.{not_t}
+use lib.Dec.{not_T}
 use Rattle.numbers.proofs.Tests.{Tnot→≡false}
 use lib.ListN.{length}
 use Rattle.table.specs.Records.{Mark, AR, record_size, record_count, marked}
@@ -24,7 +24,7 @@ module _ (bs : List ℕ) where
 
   -- so past the end nothing has one.
   pub unmarked_beyond : Whole → (m : Mark) (p : ℕ) → record_count bs ≤ p → marked bs m p ≡ false
-  unmarked_beyond w m p h = Tnot→≡false (marked bs m p) (not_t (marked bs m p) (λ t. omega (arith, marked→<record_count bs m p (length-records bs w) t)))
+  unmarked_beyond w m p h = Tnot→≡false (marked bs m p) (not_T (marked bs m p) (λ t. omega (arith, marked→<record_count bs m p (length-records bs w) t)))
 
   -- ---- a run of one mark
 

@@ -5,7 +5,7 @@ use native.Mathlib.Omega.{arith}
 use native.Mathlib.Decide.{dec_lt, dec_le}
 use mathlib.Core.Bool.{Bool, true, false, not}
 use mathlib.Core.List.{List}
-use lib.Dec.{T, T_not, not_t}
+use lib.Dec.{T, T_not, not_T}
 use Rattle.table.specs.Records.{Mark, marked}
 use Rattle.answers.specs.Sections.{run_end}
 
@@ -29,7 +29,7 @@ module _ (bs : List ℕ) (m : Mark) where
   pub run_end-Run : (more p : ℕ) → ((k : ℕ) → T (marked bs m k) → k < p + more) → Run bs m p (run_end bs m more p)
   unfolding run_end
   run_end-Run zero p within =
-      record { ordered = omega arith; inside = λ k l h. absurd (omega arith); behind = not_t (marked bs m p) (λ t. omega (arith, within p t)) }
+      record { ordered = omega arith; inside = λ k l h. absurd (omega arith); behind = not_T (marked bs m p) (λ t. omega (arith, within p t)) }
   run_end-Run (suc more) p within = go (marked bs m p) refl (run_end-Run more (suc p) (λ k t. omega (arith, within k t)))
     where
       go : (b : Bool) → marked bs m p ≡ b → Run bs m (suc p) (run_end bs m more (suc p))

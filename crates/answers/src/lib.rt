@@ -1,1 +1,3 @@
 // What each public call answers: definitions and laws only.
+#![tactic(auto)]
+

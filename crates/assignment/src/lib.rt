@@ -1,4 +1,6 @@
 // "The assignment is a list of signed 32-bit numbers, one per variable", each within its variable's domain.
+#![tactic(auto)]
+
 ghost use Rattle.std.specs.Prelude.{◌≡◌, ◌<◌};
 ghost use Rattle.numbers.specs.Whole.{between};
 ghost use Rattle.table.specs.Records.{record_count, x_at, y_at};
@@ -11,7 +13,7 @@ use layout::fields::{x_at, y_at};
 use sections::Places;
 
 // What the test says of an assignment.
-#[derive(Drop)]
+#[derive(Clone, Copy)]
 pub enum Assigned {
     // One value for each variable, within its domain.
     Fits,

@@ -1,4 +1,6 @@
 // The library for C and Rust, as include/barfigol.h declares it. A slice is a pointer and a length there.
+#![tactic(auto)]
+
 ghost use Rattle.std.specs.Prelude.{◌≡◌};
 ghost use Rattle.answers.specs.Answers as Answers;
 ghost use Rattle.verdict.specs.Results as Verdict;
@@ -12,7 +14,7 @@ use verdict::Check;
 
 // What a call gives back. A field that a call has nothing to say about is 0 or false.
 #[repr(C)]
-#[derive(Drop)]
+#[derive(Clone, Copy)]
 pub struct Answer {
     // 0 for done, else the number of the refusal
     pub number: u32,

@@ -1,4 +1,6 @@
 // "Bounds before translation": the interval of every node in one pass, which stops at the first one beyond the limit.
+#![tactic(auto)]
+
 ghost use Rattle.std.specs.Prelude.{◌≡◌, ◌+◌, ◌<◌, ◌≤◌, pos, get_or, replicate};
 ghost use Rattle.numbers.specs.Limits.{most_arrays};
 ghost use Rattle.language.specs.Meaning.{slot_at};
@@ -21,7 +23,7 @@ use sections::Places;
 use table::{MOST_RECORDS, kind};
 
 // What the pass answers: every interval is within the limit, or the record of the first node whose interval is not.
-#[derive(Drop)]
+#[derive(Clone, Copy)]
 pub enum Bounds {
     Within,
     Beyond(usize),

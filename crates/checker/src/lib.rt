@@ -1,4 +1,6 @@
 // The check: for every byte string the first faulty record and what is wrong with it, or that the table is sound.
+#![tactic(auto)]
+
 ghost use Rattle.std.specs.Prelude.{◌≡◌, true, length};
 ghost use Rattle.answers.specs.Answers as Answers;
 ghost use Rattle.answers.specs.Check.{length_allowed};

@@ -1,4 +1,6 @@
 // What one assignment makes of the constraints of a table, with no lent output.
+#![tactic(auto)]
+
 ghost use Rattle.std.specs.Prelude.{◌≡◌, nat_abs};
 ghost use Rattle.table.specs.Records.{x_at};
 ghost use Rattle.answers.specs.Answers.{verdict};
@@ -17,7 +19,7 @@ use table::{MOST_BYTES, MOST_RECORDS, NodeNumber};
 
 // One byte per constraint from byte 0 on, whether no integer node met was beyond the limit, and whether all bytes are 1.
 // Past the limit: zeros, and a no.
-#[derive(Drop)]
+#[derive(Clone, Copy)]
 pub struct Verdicts {
     pub bytes: [u8; MOST_RECORDS],
     pub within: bool,

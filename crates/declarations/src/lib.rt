@@ -1,4 +1,6 @@
 // HD, VR, SL, AR and EL: each record by itself, and the first fault of each section.
+#![tactic(auto)]
+
 ghost use Rattle.std.specs.Prelude.{◌≡◌, ℕ, ◌+◌, ◌%◌, ◌≤◌, ◌<◌, length};
 ghost use Rattle.table.specs.Records.{record_size, record_count, kind_at, signed};
 ghost use Rattle.answers.specs.Sections.{sort_of_kind, variables_at, variable_count};

@@ -1,4 +1,6 @@
 // The public evaluation: for every choice, byte string, assignment, budget and list the verdict of each constraint, or the refusal.
+#![tactic(auto)]
+
 ghost use Rattle.std.specs.Prelude.{◌≡◌, ◌++◌, ◌≤◌, length, take, drop};
 ghost use Rattle.std.proofs.Math.Option.{none};
 ghost use Rattle.answers.specs.Sections.{constraints};
@@ -20,7 +22,7 @@ use table::{MOST_BYTES, MOST_RECORDS};
 use verdict::{Check, is_sound};
 
 // The total steps, how many bytes are written, and whether all are 1.
-#[derive(Drop)]
+#[derive(Clone, Copy)]
 pub struct Totals {
     pub steps: u32,
     pub written: u32,
@@ -28,7 +30,7 @@ pub struct Totals {
 }
 
 // What an evaluation answers. Each refusal has the record that it is about, where there is one.
-#[derive(Drop)]
+#[derive(Clone, Copy)]
 pub enum Evaluation {
     Done(Totals),
     // "choice not 1 to 3"
@@ -46,7 +48,7 @@ pub enum Evaluation {
 }
 
 // What comes before the walk: the total steps, or a refusal.
-#[derive(Drop)]
+#[derive(Clone, Copy)]
 enum Admission {
     Steps(u32),
     Unassigned(u32),

@@ -11,7 +11,7 @@ use operations::truths::Connective;
 use operations::values::Value;
 use table::{ArrayNumber, MOST_BYTES, NodeNumber, SlotNumber, VariableNumber, kind};
 
-#[derive(Drop)]
+#[derive(Clone, Copy)]
 pub enum IntegerNode {
     Constant(Value),
     Variable(VariableNumber),
@@ -25,7 +25,7 @@ pub enum IntegerNode {
 }
 
 // Each comparison and each quantifier has a case of its own: a second choice in the walk would slow ranges down.
-#[derive(Drop)]
+#[derive(Clone, Copy)]
 pub enum TruthNode {
     Constant(Value),
     Variable(VariableNumber),

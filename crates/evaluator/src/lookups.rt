@@ -124,7 +124,7 @@ pub fn looked_up_truth(
 }
 
 // An integer leaf (constant, variable, slot) or another node.
-#[derive(Drop)]
+#[derive(Clone, Copy)]
 pub enum Leaf {
     Is(Walked),
     Other,

@@ -11,7 +11,7 @@ use crate::{SLOT_COUNT, SLOTS_FROM};
 use table::{MOST_BYTES, SlotNumber};
 
 // A slot's first value and how many it has.
-#[derive(Drop)]
+#[derive(Clone, Copy)]
 pub struct Range {
     pub low: i32,
     pub count: u32,

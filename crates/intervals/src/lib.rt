@@ -1,4 +1,6 @@
 // Intervals, and what each operation makes of its operands' intervals.
+#![tactic(auto)]
+
 ghost use Rattle.std.specs.Prelude.{◌≡◌, ◌&&◌, ◌≤◌, pos, neg_ℤ, nat_abs};
 ghost use Rattle.numbers.specs.Limits.{limit};
 ghost use Rattle.numbers.specs.Whole as Whole;
@@ -8,7 +10,7 @@ ghost use Rattle.rules.specs.Bounds as Bounds;
 ghost use Rattle.intervals.specs.Spans.{span, as_slot, opposite, repeated, Small, Narrow};
 
 // low..high.
-#[derive(Drop)]
+#[derive(Clone, Copy)]
 pub struct Ends {
     pub low: i64,
     pub high: i64,

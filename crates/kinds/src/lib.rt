@@ -1,4 +1,6 @@
 // "One small table of kinds says which operands each kind takes and what it yields."
+#![tactic(auto)]
+
 ghost use Rattle.std.specs.Prelude.{◌≡◌};
 ghost use Rattle.table.specs.Kinds.{kinds};
 ghost use Rattle.kinds.specs.Entries.{entries_of, row_of};

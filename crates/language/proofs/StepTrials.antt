@@ -27,8 +27,8 @@ two = negate one
 abbrev T : BExp ⊥
 T = truth true
 
-abbrev not_t : BExp ⊥
-not_t = negation T
+abbrev not_T : BExp ⊥
+not_T = negation T
 
 -- ---- every operator
 
@@ -53,7 +53,7 @@ integers =
     ∷ (two, 2)
     ∷ (negate two, 3)
     ∷ (bool_to_int T, 2)
-    ∷ (bool_to_int not_t, 3)
+    ∷ (bool_to_int not_T, 3)
     ∷ (lookup 0 one, 2)
     ∷ (lookup 0 two, 3)
     ∷ (sum 0 two, 1)
@@ -67,22 +67,22 @@ truths =
     ∷ (variable_b 0, 1)
     ∷ (lookup_b 0 one, 2)
     ∷ (lookup_b 0 two, 3)
-    ∷ (connect conj T not_t, 4)
-    ∷ (connect disj not_t T, 4)
-    ∷ (connect implies not_t not_t, 5)
-    ∷ (connect iff T not_t, 4)
-    ∷ (not_t, 2)
-    ∷ (negation not_t, 3)
+    ∷ (connect conj T not_T, 4)
+    ∷ (connect disj not_T T, 4)
+    ∷ (connect implies not_T not_T, 5)
+    ∷ (connect iff T not_T, 4)
+    ∷ (not_T, 2)
+    ∷ (negation not_T, 3)
     ∷ (compare equal one two, 4)
     ∷ (compare unequal two one, 4)
     ∷ (compare at_most two two, 5)
     ∷ (compare below one two, 4)
-    ∷ (quantify exists 0 not_t, 1)
-    ∷ (quantify exists 1 not_t, 3)
-    ∷ (quantify exists 2 not_t, 7)
-    ∷ (quantify forall 0 not_t, 1)
-    ∷ (quantify forall 1 not_t, 3)
-    ∷ (quantify forall 2 not_t, 7)
+    ∷ (quantify exists 0 not_T, 1)
+    ∷ (quantify exists 1 not_T, 3)
+    ∷ (quantify exists 2 not_T, 7)
+    ∷ (quantify forall 0 not_T, 1)
+    ∷ (quantify forall 1 not_T, 3)
+    ∷ (quantify forall 2 not_T, 7)
     ∷ []
 
 integers-cost : map (λ r. steps_i slots-declared r.0) integers ≡ map (λ r. r.1) integers

@@ -1,1 +1,3 @@
 // The language of constraints: definitions and laws only.
+#![tactic(auto)]
+

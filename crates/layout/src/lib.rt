@@ -1,4 +1,6 @@
 // A checked table's records: their fields, and where its arrays stand.
+#![tactic(auto)]
+
 ghost use Rattle.std.specs.Prelude.{◌≡◌};
 ghost use Rattle.layout.specs.Passed.{Passed};
 ghost use Rattle.sections.specs.Places.{places_of};

@@ -1,5 +1,7 @@
 // The text of a listing in code: decimal numbers, the line of each record, and the line of a refusal. Each function writes from a place
 // of a lent slice on and gives the place behind what it wrote.
+#![tactic(auto)]
+
 ghost use Rattle.std.specs.Prelude.{◌≡◌, [], ◌∷◌, ◌++◌, ◌+◌, ◌*◌, ◌≤◌, ◌<◌, length};
 ghost use Rattle.std.proofs.lemmas.List.Edits.{sets};
 ghost use Rattle.table.specs.Records.{record_count, signed};

@@ -1,4 +1,5 @@
 // The listing program: reads a digit of choice and then a table from standard input, and writes the listing to standard output.
+#![tactic(auto)]
 
 // Room for the digit and 60,013 bytes of table. Of a longer input the first bytes tell the text: `first-bytes` of listing's laws.
 const MOST_INPUT: usize = 60_014;

@@ -2,6 +2,8 @@
 //
 // What is known of a thing is one number (`Facts`): twice the set of its free slots, a bit for each slot, and 1 more where it yields integers. All
 // of them stand in one array, so an operand is tested, and its free slots are read, in one look.
+#![tactic(auto)]
+
 ghost use Rattle.std.specs.Prelude.{◌≡◌, ℕ, ◌+◌, ◌*◌, ◌^◌, ◌≤◌, ◌<◌, length, get_or};
 ghost use Rattle.table.specs.Records.{record_count, kind_at};
 ghost use Rattle.answers.specs.Sections.{array_records};

@@ -1,1 +1,3 @@
 // Whole numbers: definitions and laws only.
+#![tactic(auto)]
+

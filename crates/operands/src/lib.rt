@@ -2,6 +2,8 @@
 //
 // What is known of a thing is one number (`Facts`): twice the set of its free slots, a bit for each slot, and 1 more where it yields integers. All
 // of them stand in one array, so an operand is tested, and its free slots are read, in one look.
+#![tactic(auto)]
+
 ghost use Rattle.std.specs.Prelude.{◌≡◌, ◌≤◌, ◌<◌, eqb, get_or};
 ghost use Rattle.answers.specs.Check.{refuse};
 ghost use Rattle.verdict.specs.Results.{refusal_of};
@@ -14,7 +16,7 @@ use verdict::Check;
 const ANY_NUMBER: usize = kinds::ANY_NUMBER as usize;
 
 // What looking at an operand finds.
-#[derive(Drop)]
+#[derive(Clone, Copy)]
 pub enum Looked {
     Fact(u32),
     // The number is beyond those that the field may hold.
@@ -24,7 +26,7 @@ pub enum Looked {
 }
 
 // What a node's fact is made to.
-#[derive(Drop)]
+#[derive(Clone, Copy)]
 pub enum Made {
     Whole(u32),
     Faulty,

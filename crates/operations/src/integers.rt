@@ -8,7 +8,7 @@ ghost use Rattle.operations.specs.Integers.{arithmetic_of, division_of, operands
 
 use crate::values::{Value, Walked, limited, undefined};
 
-#[derive(Drop)]
+#[derive(Clone, Copy)]
 pub enum Arithmetic {
     Plus,
     Minus,
@@ -17,14 +17,14 @@ pub enum Arithmetic {
     Maximum,
 }
 
-#[derive(Drop)]
+#[derive(Clone, Copy)]
 pub enum Division {
     Quotient,
     Remainder,
 }
 
 // Two integers, or whether two operands of which one is undefined stay within the limit.
-#[derive(Drop)]
+#[derive(Clone, Copy)]
 pub enum Operands {
     Both(i32, i32),
     Missing(bool),

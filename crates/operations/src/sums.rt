@@ -7,7 +7,7 @@ ghost use Rattle.operations.specs.Sums.{total_of, total_value, plus_to};
 use crate::values::{Value, Walked, limited, undefined};
 
 // A sum so far: undefined once an addend is, and 0 then.
-#[derive(Drop)]
+#[derive(Clone, Copy)]
 pub struct Total {
     pub sum: i64,
     pub defined: bool,

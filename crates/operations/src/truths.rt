@@ -11,7 +11,7 @@ use crate::integers::{Operands, integers_of};
 use crate::values::{Value, Walked, truth_of, undefined};
 use reading::Reading;
 
-#[derive(Drop)]
+#[derive(Clone, Copy)]
 pub enum Comparison {
     Equal,
     Unequal,
@@ -19,7 +19,7 @@ pub enum Comparison {
     Below,
 }
 
-#[derive(Drop)]
+#[derive(Clone, Copy)]
 pub enum Connective {
     And,
     Or,

@@ -4,7 +4,7 @@ ghost use Rattle.std.proofs.Math.Option.{some};
 ghost use Rattle.operations.specs.Values.{of_walk, integer_of, limited_to};
 
 // "Each value is an integer, a truth value or undefined."
-#[derive(Drop)]
+#[derive(Clone, Copy)]
 pub enum Value {
     Integer(i32),
     Truth(bool),
@@ -13,13 +13,13 @@ pub enum Value {
 
 // What a walk over a node gives back: its value, and whether every integer node met had a value within the limit.
 // Past the limit the value does not matter any more, and is left undefined.
-#[derive(Drop)]
+#[derive(Clone, Copy)]
 pub struct Walked {
     pub value: Value,
     pub within: bool,
 }
 
-#[derive(Drop)]
+#[derive(Clone, Copy)]
 pub enum Quantifier {
     Exists,
     Forall,

@@ -1,4 +1,6 @@
 // A checked table made ready for the walk: its bytes in an array of fixed length, and where its sections lie.
+#![tactic(auto)]
+
 ghost use Rattle.std.specs.Prelude.{◌≡◌, ◌≤◌, length, replicate};
 ghost use Rattle.numbers.specs.Limits.{most_bytes};
 ghost use Rattle.layout.specs.Passed.{Passed};

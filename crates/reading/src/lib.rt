@@ -1,10 +1,12 @@
 // How undefined terms are read, and the choice by which a caller asks for a reading.
+#![tactic(auto)]
+
 ghost use Rattle.std.specs.Prelude.{◌≡◌};
 ghost use Rattle.answers.specs.Answers.{reading_of};
 ghost use Rattle.reading.specs.Readings.{meant_by};
 
 // The three readings of Frisch and Stuckey.
-#[derive(Drop)]
+#[derive(Clone, Copy)]
 pub enum Reading {
     Strict,
     Kleene,
@@ -12,7 +14,7 @@ pub enum Reading {
 }
 
 // The reading that a choice asks for, if it is one.
-#[derive(Drop)]
+#[derive(Clone, Copy)]
 pub enum Choice {
     Under(Reading),
     Nothing,

@@ -1,1 +1,3 @@
 // The rules of translation and the bounds before it: definitions and laws only.
+#![tactic(auto)]
+

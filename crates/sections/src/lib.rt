@@ -1,4 +1,6 @@
 // Where each section of a table of whole records begins, whether or not the table is sound.
+#![tactic(auto)]
+
 ghost use Rattle.std.specs.Prelude.{◌≡◌, ◌%◌, length};
 ghost use Rattle.table.specs.Records.{record_size};
 ghost use Rattle.table.specs.Marks.{mark_of};
@@ -8,7 +10,7 @@ ghost use Rattle.sections.specs.Places.{places_of, array_run_of};
 use table::Mark;
 
 // The record at which each section begins, and how many arrays there are. The variables begin at record 1.
-#[derive(Drop)]
+#[derive(Clone, Copy)]
 pub struct Places {
     pub slots: usize,
     pub arrays: usize,
@@ -19,7 +21,7 @@ pub struct Places {
 }
 
 // The arrays from a record on: the record behind their elements, and how many they are.
-#[derive(Drop)]
+#[derive(Clone, Copy)]
 pub struct ArrayRun {
     pub end: usize,
     pub count: usize,

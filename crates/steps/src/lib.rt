@@ -1,4 +1,6 @@
 // "The total is the sum over all constraints, shared nodes counted each time": found beforehand in one pass, however often a node is shared.
+#![tactic(auto)]
+
 ghost use Rattle.std.specs.Prelude.{◌≡◌, map, ◌≤◌, ◌<◌, nat_abs, length, get_or};
 ghost use Rattle.std.proofs.Math.Option.{none};
 ghost use Rattle.language.specs.Tables.{tree_at};

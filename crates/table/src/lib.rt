@@ -1,4 +1,6 @@
 // The table on disk in code: numbers that cannot be confused, the marks, and the parts of a record.
+#![tactic(auto)]
+
 ghost use Rattle.std.specs.Prelude.{◌≡◌, ◌+◌, ◌*◌, ◌≤◌, ◌<◌, nat_abs};
 ghost use Rattle.table.specs.Records as Records;
 ghost use Rattle.table.specs.Records.{record_size, record_count, word_at, kind_at, aux_at, x_at, y_at};
@@ -8,20 +10,20 @@ ghost use Rattle.table.specs.Words.{lift};
 pub mod kind;
 
 // "Variables, slots, arrays and nodes are each numbered from 0".
-#[derive(Drop)]
+#[derive(Clone, Copy)]
 pub struct NodeNumber(pub u32);
 
-#[derive(Drop)]
+#[derive(Clone, Copy)]
 pub struct VariableNumber(pub u32);
 
-#[derive(Drop)]
+#[derive(Clone, Copy)]
 pub struct SlotNumber(pub u32);
 
-#[derive(Drop)]
+#[derive(Clone, Copy)]
 pub struct ArrayNumber(pub u32);
 
 // What a record is: its two letters.
-#[derive(Drop)]
+#[derive(Clone, Copy)]
 pub enum Mark {
     Head,
     Variable,

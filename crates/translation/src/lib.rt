@@ -1,4 +1,6 @@
 // The public translation: for every choice, byte string and buffer the table without undefined parts, or the refusal.
+#![tactic(auto)]
+
 ghost use Rattle.std.specs.Prelude.{◌≡◌, ◌&&◌, ◌++◌, ◌-◌, ◌*◌, ◌≤◌, leb, length, take, drop};
 ghost use Rattle.std.proofs.Math.Option.{none};
 ghost use Rattle.std.proofs.lemmas.List.Edits.{sets};
@@ -27,7 +29,7 @@ use verdict::{Check, is_sound};
 use writing::put_nodes_and_constraints;
 
 // What a translation answers. Each refusal has the record that it is about, where there is one.
-#[derive(Drop)]
+#[derive(Clone, Copy)]
 pub enum Translation {
     // so many bytes are written
     Done(u32),

@@ -1,4 +1,6 @@
 // How many records the new table has. The rules' rows and their writer stand in the modules.
+#![tactic(auto)]
+
 ghost use Rattle.std.specs.Prelude.{◌≡◌};
 ghost use Rattle.answers.specs.Answers.{new_count};
 ghost use Rattle.layout.specs.Passed.{Passed};

@@ -1,5 +1,7 @@
 // The trials that document 01 runs, and the smallest table of each refusal number, through the public functions. One line a trial: the
 // answer's number and record, behind them the steps and "all are 1" of an evaluation or the length of a translation.
+#![tactic(auto)]
+
 ghost use Rattle.std.specs.Prelude.{◌≤◌};
 
 use evaluation::Evaluation;

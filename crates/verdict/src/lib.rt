@@ -1,9 +1,11 @@
 // What the check says of a table.
+#![tactic(auto)]
+
 ghost use Rattle.std.specs.Prelude.{◌≡◌};
 ghost use Rattle.verdict.specs.Results.{refusal_of, answer_of, is_none};
 
 // Each case but `Sound` and `BadLength` has the record of the fault.
-#[derive(Drop)]
+#[derive(Clone, Copy)]
 pub enum Check {
     Sound,
     // "length below 12, above 60,000, or no multiple of 12"

@@ -1,4 +1,6 @@
 // The nodes and the constraints of the new table.
+#![tactic(auto)]
+
 ghost use Rattle.std.specs.Prelude.{◌≡◌, ◌++◌, ◌*◌, ◌≤◌, length};
 ghost use Rattle.std.proofs.Math.Option.{none};
 ghost use Rattle.std.proofs.lemmas.List.Edits.{sets};

@@ -1,0 +1,6 @@
+-- `barfigol::evaluated` meets its contract: the answer from its parts.
+use Rattle.evaluation.proofs.Numbers.{answer-from}
+use Rattle.barfigol.proofs.evaluated.Goals as goal
+
+pub returns : goal.returns
+returns c = answer-from c.args.evaluation c.number.ensures c.«record».ensures c.totals_of-totals.ensures

@@ -1,0 +1,21 @@
+-- `table::kind_at` meets its contract: the record is within the table.
+use native.Mathlib.Omega.{arith}
+use mathlib.Core.Path.{refl}
+use Rattle.table.specs.Records.{record_size, record_count, byte_at, kind_at}
+use Rattle.table.proofs.kind_at.Goals as goal
+
+pub overflow_mul-result : goal.overflow_mul-result
+unfolding record_size record_count
+overflow_mul-result c = omega arith
+
+pub overflow_add-result : goal.overflow_add-result
+unfolding record_size record_count
+overflow_add-result c = omega arith
+
+pub bounds-table-p : goal.bounds-table-p
+unfolding record_size record_count
+bounds-table-p c = omega arith
+
+pub returns : goal.returns
+unfolding kind_at byte_at record_size
+returns c = refl
