@@ -20,7 +20,7 @@ worked-out f x y r p q s e = to_z-of_z s ∙ e ∙ rw (to_z-of_z p, to_z-of_z q)
 pub returns-in-Both : goal.returns-in-Both
 returns-in-Both c = let s = c.args in
     let x = c.in-Both.x in
-    let y = c.x-1.given.0.1.0 in
+    let y = c.in-Both.y in
     let p : SFits w32 x = search rules in
     let q : SFits w32 y = search rules in
     let f = arithmetic (arithmetic_of s.op) in

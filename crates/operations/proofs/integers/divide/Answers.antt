@@ -31,14 +31,14 @@ module _ (op : syntax.Division) (x y : ℤ) where
   worked-out r p q s e = to_z-of_z s ∙ e ∙ rw (to_z-of_z p, to_z-of_z q)
 
 pub part-requires : goal.part-requires
-part-requires c = let y = c.x-1.given.0.1.0 in
+part-requires c = let y = c.in-Both.y in
     let q : SFits w32 y = search rules in
     rw (to_z-of_z q) (nonzero_bits y q c.if-y-eq0.false)
 
 pub returns-then-y-eq0 : goal.returns-then-y-eq0
 returns-then-y-eq0 c = let s = c.args in
     let x = c.in-Both.x in
-    let y = c.x-1.given.0.1.0 in
+    let y = c.in-Both.y in
     let q : SFits w32 y = search rules in
     c.undefined.ensures
     ∙ sym (by_zero (division_of s.op) x y (zero_bits y q c.if-y-eq0.true))
@@ -47,7 +47,7 @@ returns-then-y-eq0 c = let s = c.args in
 pub returns-else-y-eq0 : goal.returns-else-y-eq0
 returns-else-y-eq0 c = let s = c.args in
     let x = c.in-Both.x in
-    let y = c.x-1.given.0.1.0 in
+    let y = c.in-Both.y in
     let p : SFits w32 x = search rules in
     let q : SFits w32 y = search rules in
     let o = division_of s.op in

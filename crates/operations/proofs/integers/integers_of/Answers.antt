@@ -9,6 +9,7 @@ use borrow.Author.Rules.{rules}
 use Rattle.operations.specs.declared.integers.Operands.TheVariants.{Both}
 use Rattle.operations.specs.Values.{integer_of}
 use Rattle.operations.proofs.Pairs.{both-integers, left_missing, right_missing, left_uneasy, right_uneasy}
+use Rattle.operations.proofs.integers.integers_of.Goals.{else-a-via-then-a+else-b, else-a-via-else-a}
 use Rattle.operations.proofs.integers.integers_of.Goals as goal
 
 -- Both numbers go through their bits.
@@ -37,6 +38,7 @@ pub returns-in-Undefined : goal.returns-in-Undefined
 returns-in-Undefined c = left_missing c.args.a c.args.b c.if-a.true c.if-b.true (ap integer_of c.in-Undefined.is)
 
 pub returns-else-a : goal.returns-else-a
-returns-else-a c = let a = c.args.a in
+returns-else-a c =
+    let a = c.args.a in
     let b = c.args.b in
-    ⊎_elim (λ w. right_uneasy a b w.0.taken w.1.left) (λ w. left_uneasy a b w.left) c.if-a.branch
+    elim c.else-a.branch [ else-a-via-then-a+else-b w ↦ right_uneasy a b w.if-a.true w.if-b.false | else-a-via-else-a w ↦ left_uneasy a b w.if-a.false ]

@@ -1,4 +1,5 @@
 -- `operations::integers::quotient` meets its contract: the magnitudes' quotient, with its sign.
+use mir.Syntax.{w64}
 use mathlib.Core.Path.{◌≡◌, refl, ◌∙◌}
 use mathlib.Core.Bool.{not, beq}
 use Prim.Native.Nat.{◌/◌}
@@ -26,6 +27,6 @@ nonzero_div-q c = rw (c.magnitude-2.ensures, to_z-of_z c.ranges.y) (nat_abs-posi
 pub returns : goal.returns
 returns c = let m = c.magnitude.ensures in
     let n = c.magnitude-2.ensures in
-    to_z-of_z (sfits_of c.with_sign.type_inv)
+    to_z-of_z {w = w64} (sfits_of c.with_sign.type_inv)
     ∙ c.with_sign.ensures
     ∙ rw (m, n, to_z-of_z c.ranges.x, to_z-of_z c.ranges.y) (signed_quotient c.args.x c.args.y)

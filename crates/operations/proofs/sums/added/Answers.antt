@@ -17,6 +17,7 @@ use Rattle.operations.specs.declared.values.Walked.{Walked}
 use Rattle.operations.specs.declared.sums.Total.{Total}
 use Rattle.operations.specs.Values.{integer_of}
 use Rattle.operations.specs.Sums.{total_value, plus_to}
+use Rattle.operations.proofs.sums.added.Goals.{else-total-via-then-total+else-a, else-total-via-else-total}
 use Rattle.operations.proofs.sums.added.Goals as goal
 
 both-none : (u : Option ℤ) → both (λ x y. some (x +ℤ y)) u none ≡ none
@@ -87,4 +88,6 @@ pub returns-in-Undefined : goal.returns-in-Undefined
 returns-in-Undefined c = let s = c.args in undefined-here s.total s.a c.if-total.true c.if-a.true (ap integer_of c.in-Undefined.is)
 
 pub returns-else-total : goal.returns-else-total
-returns-else-total c = let s = c.args in ⊎_elim (λ w. uneasy-here s.total s.a w.0.taken w.1.left) (λ w. uneasy-before s.total s.a w.left) c.if-total.branch
+returns-else-total c =
+    let s = c.args in
+    elim c.else-total.branch [ else-total-via-then-total+else-a w ↦ uneasy-here s.total s.a w.if-total.true w.if-a.false | else-total-via-else-total w ↦ uneasy-before s.total s.a w.if-total.false ]

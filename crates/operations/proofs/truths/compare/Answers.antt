@@ -22,7 +22,7 @@ worked-out f x y p q e = e ∙ rw (to_z-of_z p, to_z-of_z q)
 pub returns-in-Both : goal.returns-in-Both
 returns-in-Both c = let s = c.args in
     let x = c.in-Both.x in
-    let y = c.x-1.given.0.1.0 in
+    let y = c.in-Both.y in
     let p : SFits w32 x = search rules in
     let q : SFits w32 y = search rules in
     c.truth_of.ensures
