@@ -57,19 +57,19 @@ module _ (α : Assignment) (bs : List ℕ) (p : ℕ) (i : ℤ) where
   before-array h = rw h
 
   pub behind-elements : le_z (x_at bs p) i ≡ true → nat_abs (y_at bs p) ≤ nat_abs (i -ℤ x_at bs p) → element_at α (array_of bs p) i ≡ none
-  unfolding element_at array_of Option.map
+  unfolding element_at array_of
   behind-elements t h = rw (t, missing_at (listed (nat_abs (y_at bs p)) (λ j. element_of bs (suc p + j))) (nat_abs (i -ℤ x_at bs p)) (rw length-listed h))
 
   pub element_found : le_z (x_at bs p) i ≡ true → nat_abs (i -ℤ x_at bs p) < nat_abs (y_at bs p) →
       element_at α (array_of bs p) i ≡ some (element_value α (element_of bs (suc p + nat_abs (i -ℤ x_at bs p))))
-  unfolding element_at array_of Option.map
+  unfolding element_at array_of
   element_found t h =
       rw (t, found_at (listed (nat_abs (y_at bs p)) (λ j. element_of bs (suc p + j))) (nat_abs (i -ℤ x_at bs p)) (element_of bs 0) (rw length-listed h))
       (ap (λ e. some (element_value α e)) (get_d_listed (nat_abs (y_at bs p)) (λ j. element_of bs (suc p + j)) (element_of bs 0) (nat_abs (i -ℤ x_at bs p)) h))
 
   -- An array that is not declared has no element.
   pub element_missing : element_at α no_array i ≡ none
-  unfolding element_at no_array Option.map
+  unfolding element_at no_array
   element_missing = by_test (le_z (pos 0) i)
     where
       by_test : (b : Bool) → cond b (Option.map (element_value α) (get_elem? [] (nat_abs (i -ℤ pos 0)))) none ≡ none

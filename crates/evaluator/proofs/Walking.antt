@@ -1,7 +1,6 @@
 -- What a walk over an expression gives, from what it gave over its operands; and over a node, from its decoded case.
 use mathlib.Core.Path.{◌≡◌, refl, sym}
 use Prim.Native.Nat.{ℕ}
-use native.Mathlib.Omega.{arith}
 use mathlib.Core.Bool.{Bool, true, false, ◌&&◌}
 use mathlib.Core.Option.{Option, none, some, map, bind}
 use lib.IntN.{ℤ, neg_ℤ}
@@ -44,7 +43,7 @@ negated-walked true u = rw (integer_of-of_integer u)
 negated-walked false u = refl
 
 within-number : (v : Option Bool) → value_within (map number v) ≡ true
-unfolding value_within map number within_limit
+unfolding value_within number within_limit
 within-number none = refl
 within-number (some true) = refl
 within-number (some false) = refl

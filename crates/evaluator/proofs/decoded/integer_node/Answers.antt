@@ -1,4 +1,6 @@
 -- `evaluator::decoded::integer_node` meets its contract, by the kind.
+use native.Mathlib.Omega.{arith}
+use mir.Syntax.{w32}
 use mathlib.Core.Path.{◌≡◌, refl, sym, ap, ap₂, ◌∙◌}
 use Prim.Native.Nat.{ℕ, ◌+◌}
 use mathlib.Core.Bool.{false}
@@ -23,7 +25,7 @@ none_of k n1 n3 n5 n6 n7 n8 n9 n10 n11 n12 n13 n14 n15 n17 =
 pub returns-in-1 : goal.returns-in-1
 unfolding kind_of kinds integer_case row_in
 returns-in-1 c = let s = c.args in
-    ap (λ z. integer.Constant (Integer z)) (to_z-of_z (sfits_of c.x_at.type_inv) ∙ c.x_at.ensures)
+    ap (λ z. integer.Constant (Integer z)) (to_z-of_z {w = w32} (sfits_of c.x_at.type_inv) ∙ c.x_at.ensures)
     ∙ of_kind integer_case (λ x y. integer.Constant (Integer x)) s.t.now (nodes_from s.places.now + s.n.0) 1 (sym c.kind_at.ensures ∙ c.in-1.is) (λ x y. refl)
 
 pub returns-in-3 : goal.returns-in-3
@@ -107,4 +109,4 @@ returns-in-17 c = let s = c.args in
 pub returns-in_default : goal.returns-in_default
 returns-in_default c = let s = c.args in
     of_kind integer_case (λ x y. integer.Constant (Integer (pos 0))) s.t.now (nodes_from s.places.now + s.n.0) c.kind_at.result (sym c.kind_at.ensures)
-    (other-integer c.kind_at.result (none_of c.kind_at.result c.in_default.in_default-own.rest.0.0.0.0.0.0.0.0.0.0.0.0.0.1 c.in_default.in_default-own.rest.0.0.0.0.0.0.0.0.0.0.0.0.1 c.in_default.in_default-own.rest.0.0.0.0.0.0.0.0.0.0.0.1 c.in_default.in_default-own.rest.0.0.0.0.0.0.0.0.0.0.1 c.in_default.in_default-own.rest.0.0.0.0.0.0.0.0.0.1 c.in_default.in_default-own.rest.0.0.0.0.0.0.0.0.1 c.in_default.in_default-own.rest.0.0.0.0.0.0.0.1 c.in_default.in_default-own.rest.0.0.0.0.0.0.1 c.in_default.in_default-own.rest.0.0.0.0.0.1 c.in_default.in_default-own.rest.0.0.0.0.1 c.in_default.in_default-own.rest.0.0.0.1 c.in_default.in_default-own.rest.0.0.1 c.in_default.in_default-own.rest.0.1 c.in_default.in_default-own.rest.1))
+    (other-integer c.kind_at.result (none_of c.kind_at.result (omega arith) (omega arith) (omega arith) (omega arith) (omega arith) (omega arith) (omega arith) (omega arith) (omega arith) (omega arith) (omega arith) (omega arith) (omega arith) (omega arith)))

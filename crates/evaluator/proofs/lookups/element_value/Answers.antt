@@ -1,4 +1,5 @@
 -- `evaluator::lookups::element_value` meets its contract.
+use mir.Syntax.{w32}
 use borrow.Author.Rules.{sfits_of}
 use mathlib.Core.Path.{◌≡◌, ap, ◌∙◌}
 use Prim.Native.Nat.{ℕ}
@@ -22,9 +23,9 @@ module _ (α : Assignment) (bs : List ℕ) (k : ℕ) {kind : ℕ} (h : kind ≡ 
 
 pub returns-then-kind_at-eq0 : goal.returns-then-kind_at-eq0
 returns-then-kind_at-eq0 c = let s = c.args in
-    fixed-element s.assignment.now s.t.now s.k c.kind_at.ensures c.if-kind_at-eq0.true (to_z-of_z (sfits_of c.x_at.type_inv) ∙ c.x_at.ensures)
+    fixed-element s.assignment.now s.t.now s.k c.kind_at.ensures c.if-kind_at-eq0.true (to_z-of_z {w = w32} (sfits_of c.x_at.type_inv) ∙ c.x_at.ensures)
 
 pub returns-else-kind_at-eq0 : goal.returns-else-kind_at-eq0
 returns-else-kind_at-eq0 c = let s = c.args in
     variable-element s.assignment.now s.t.now s.k c.kind_at.ensures c.if-kind_at-eq0.false
-    (to_z-of_z (sfits_of c.variable.type_inv) ∙ c.variable.ensures ∙ ap (value_of s.assignment.now) c.named_x.ensures)
+    (to_z-of_z {w = w32} (sfits_of c.variable.type_inv) ∙ c.variable.ensures ∙ ap (value_of s.assignment.now) c.named_x.ensures)

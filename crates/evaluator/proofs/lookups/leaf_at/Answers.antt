@@ -1,4 +1,5 @@
 -- `evaluator::lookups::leaf_at` meets its contract, by the kind.
+use native.Mathlib.Omega.{arith}
 use borrow.Author.Rules.{sfits_of}
 use mathlib.Core.Path.{◌≡◌, refl, sym, ap, ◌∙◌}
 use Prim.Native.Nat.{ℕ, ◌+◌}
@@ -63,4 +64,4 @@ returns-in_default c = let s = c.args in
     of_kind (leaf_of s.assignment.now (setting_of s.setting.now)) (λ x y. Other) s.t.now (nodes_from s.places.now + s.n.0) c.kind_at.result
     (sym c.kind_at.ensures)
     (other-leaf s.assignment.now (setting_of s.setting.now) c.kind_at.result
-    (none_of c.kind_at.result c.in_default.in_default-own.rest.0.0.1 c.in_default.in_default-own.rest.0.1 c.in_default.in_default-own.rest.1))
+    (none_of c.kind_at.result (omega arith) (omega arith) (omega arith)))

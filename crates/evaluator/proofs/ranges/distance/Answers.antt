@@ -28,10 +28,10 @@ pub overflow_cast-result-2 : goal.overflow_cast-result-2
 overflow_cast-result-2 c = search (rules, widened)
 
 pub overflow_sub-result : goal.overflow_sub-result
-overflow_sub-result c = width_fits c.args.low c.args.high c.fits.low c.fits.high
+overflow_sub-result c = width_fits c.args.low c.args.high c.ranges.low c.ranges.high
 
 pub overflow_cast-result-3 : goal.overflow_cast-result-3
-overflow_cast-result-3 c = natural c.args.low c.args.high c.fits.low c.fits.high c.requires
+overflow_cast-result-3 c = natural c.args.low c.args.high c.ranges.low c.ranges.high c.requires
 
 pub returns : goal.returns
-returns c = ap nat_abs (width c.args.low c.args.high c.fits.low c.fits.high)
+returns c = ap nat_abs (width c.args.low c.args.high c.ranges.low c.ranges.high)

@@ -32,12 +32,12 @@ no-range e = rw e
 
 pub values_between-requires : goal.values_between-requires
 values_between-requires c = let k = slots_from c.args.places.now + c.args.s.0 in
-    rw (ends c.args.t.now k (sfits_of c.x_at-low.ok) (sfits_of c.y_at-high.ok) c.x_at-low.ensures c.y_at-high.ensures) (c.requires.few_values c.args.s.0 c.if-s-places.taken)
+    rw (ends c.args.t.now k (sfits_of c.x_at-low.type_inv) (sfits_of c.y_at-high.type_inv) c.x_at-low.ensures c.y_at-high.ensures) (c.requires.few_values c.args.s.0 c.if-s-places.true)
 
 pub returns-then-s-places : goal.returns-then-s-places
 returns-then-s-places c = let k = slots_from c.args.places.now + c.args.s.0 in
-    declared-range c.args.t.now k (sfits_of c.x_at-low.ok) (sfits_of c.y_at-high.ok) c.x_at-low.ensures c.y_at-high.ensures c.values_between.ensures
-    (slot-declared c.args.t.now c.args.places.now c.args.s.0 c.if-s-places.taken)
+    declared-range c.args.t.now k (sfits_of c.x_at-low.type_inv) (sfits_of c.y_at-high.type_inv) c.x_at-low.ensures c.y_at-high.ensures c.values_between.ensures
+    (slot-declared c.args.t.now c.args.places.now c.args.s.0 c.if-s-places.true)
 
 pub returns-else-s-places : goal.returns-else-s-places
-returns-else-s-places c = let s = c.args in no-range (slot-missing s.t.now s.places.now s.s.0 c.if-s-places.left)
+returns-else-s-places c = let s = c.args in no-range (slot-missing s.t.now s.places.now s.s.0 c.if-s-places.false)

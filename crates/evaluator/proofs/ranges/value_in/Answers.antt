@@ -28,10 +28,10 @@ pub overflow_cast-result : goal.overflow_cast-result
 overflow_cast-result c = search (rules, widened)
 
 pub overflow_add-result : goal.overflow_add-result
-overflow_add-result c = sum_fits c.args.low c.args.k c.fits.low c.fits.k.fits c.requires
+overflow_add-result c = sum_fits c.args.low c.args.k c.ranges.low c.ranges.k.fits c.requires
 
 pub overflow_cast-result-3 : goal.overflow_cast-result-3
-overflow_cast-result-3 c = rw (back c.args.low c.args.k c.fits.low c.fits.k.fits c.requires) c.requires
+overflow_cast-result-3 c = rw (back c.args.low c.args.k c.ranges.low c.ranges.k.fits c.requires) c.requires
 
 pub returns : goal.returns
-returns c = rw (back c.args.low c.args.k c.fits.low c.fits.k.fits c.requires) (to_z-of_z c.requires)
+returns c = rw (back c.args.low c.args.k c.ranges.low c.ranges.k.fits c.requires) (to_z-of_z c.requires)

@@ -1,4 +1,5 @@
 -- `evaluator::records::x_at` meets its contract.
+use mir.Syntax.{w32}
 use borrow.Author.Rules.{sfits_of}
 use mathlib.Core.Path.{ap, ◌∙◌}
 use mir.Facts.{to_z-of_z}
@@ -7,4 +8,4 @@ use Rattle.evaluator.proofs.records.x_at.Goals as goal
 
 pub returns : goal.returns
 unfolding records.x_at records.record_size
-returns c = to_z-of_z (sfits_of c.signed.type_inv) ∙ c.signed.ensures ∙ ap records.signed c.word.ensures
+returns c = to_z-of_z {w = w32} (sfits_of c.signed.type_inv) ∙ c.signed.ensures ∙ ap records.signed c.word.ensures

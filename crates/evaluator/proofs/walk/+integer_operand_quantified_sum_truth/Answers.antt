@@ -15,7 +15,6 @@ use Rattle.numbers.proofs.Widths.{widened}
 use Rattle.language.specs.Syntax as syntax
 use Rattle.language.specs.Readings as readings
 use Rattle.language.specs.Readings.{arithmetic, division}
-use Rattle.operations.specs.declared.values.Walked.{Walked}
 use Rattle.operations.specs.declared.sums.Total.{Total}
 use Rattle.operations.specs.declared.values.Value.TheVariants.{Truth}
 use Rattle.reading.specs.Readings.{meant}
@@ -24,23 +23,10 @@ use Rattle.operations.specs.Integers.{arithmetic_of, division_of, integers, nega
 use Rattle.operations.specs.Truths.{connective_of, compared, connected, opposed}
 use Rattle.evaluator.specs.Walks.{Ready, quantifier_of, declared, integer_at, truth_at, looked_up, looked_up_truth}
 use Rattle.evaluator.proofs.Decoding.{eqb-is_one}
-use Rattle.evaluator.proofs.Binding.{total_to, total-none, joint_to, joint_none}
+use Rattle.evaluator.proofs.Binding.{total-none, joint_none}
 use Rattle.evaluator.proofs.Turning.{slot-in, few-turns, value-fits, value-is, restored, sum-turn, sum_done, joint_turn, joint_done}
 use Rattle.evaluator.proofs.Stepping.{ready, to-operand, to-node, same-node, node_in, integer-smaller, truth-smaller, integer-case, truth-case, leaf-case, of_one, of_two, of_leaf}
 use Rattle.evaluator.proofs.walk.+integer_operand_quantified_sum_truth.Goals as goal
-
--- a sum over the first k values of a slot, and the slots' values as they were
-record Summed (ρ : readings.Reading) (bs places : List ℕ) (α : List ℤ) (values : List ℤ) (s a count k : ℕ) (now : List ℤ) (total : Total) : Type 0 where
-  within : k ≤ count
-  kept : now ≡ values
-  is : total ≡ total_to ρ bs places α values s a k
-  small : nat_abs total.sum ≤ k * 2 ^ 31
-
--- a quantifier over the first k values of a slot, and the slots' values as they were
-record Joined (ρ : readings.Reading) (bs places : List ℕ) (α : List ℤ) (values : List ℤ) (q : syntax.Quantifier) (s a count k : ℕ) (now : List ℤ) (joint : Walked) : Type 0 where
-  within : k ≤ count
-  kept : now ≡ values
-  is : joint ≡ joint_to ρ bs places α values q s a k
 
 -- the measure of a walk over a slot's values falls
 one_less : {n k : ℕ} → k < n → n - (k + 1) < n - k
@@ -70,38 +56,38 @@ integer-overflow_cast-slot t c = widened {z = c.slot.result} (sfits_of c.slot.ty
 
 pub integer-operand-x-requires : goal.integer-operand-x-requires
 integer-operand-x-requires t c = let b = integer-smaller c.requires c.integer_node.ensures c.in-Calculated.is in
-    (to-operand c.requires.0 b.0, ready c.requires b.0 refl)
+    (to-operand c.decreases b.0, ready c.requires b.0 refl)
 
 pub integer-operand-y-requires : goal.integer-operand-y-requires
 integer-operand-y-requires t c = let b = integer-smaller c.requires c.integer_node.ensures c.in-Calculated.is in
-    (to-operand c.requires.0 b.1, ready c.requires b.1 c.operand-x.ensures.1)
+    (to-operand c.decreases b.1, ready c.requires b.1 c.operand-x.ensures.1)
 
 pub integer-operand-x-requires-in-Divided : goal.integer-operand-x-requires-in-Divided
 integer-operand-x-requires-in-Divided t c = let b = integer-smaller c.requires c.integer_node.ensures c.in-Divided.is in
-    (to-operand c.requires.0 b.0, ready c.requires b.0 refl)
+    (to-operand c.decreases b.0, ready c.requires b.0 refl)
 
 pub integer-operand-y-requires-in-Divided : goal.integer-operand-y-requires-in-Divided
 integer-operand-y-requires-in-Divided t c = let b = integer-smaller c.requires c.integer_node.ensures c.in-Divided.is in
-    (to-operand c.requires.0 b.1, ready c.requires b.1 c.operand-x-in-Divided.ensures.1)
+    (to-operand c.decreases b.1, ready c.requires b.1 c.operand-x-in-Divided.ensures.1)
 
 pub integer-operand-requires : goal.integer-operand-requires
 integer-operand-requires t c = let b = integer-smaller c.requires c.integer_node.ensures c.in-Negate.is in
-    (to-operand c.requires.0 (b), ready c.requires (b) refl)
+    (to-operand c.decreases b, ready c.requires b refl)
 
 pub integer-truth-requires : goal.integer-truth-requires
 integer-truth-requires t c = let b = integer-smaller c.requires c.integer_node.ensures c.in-BoolToInt.is in
-    (to-node c.requires.0 (b), ready c.requires (b) refl)
+    (to-node c.decreases b, ready c.requires b refl)
 
 pub integer-operand-x-requires-in-Lookup : goal.integer-operand-x-requires-in-Lookup
 integer-operand-x-requires-in-Lookup t c = let b = integer-smaller c.requires c.integer_node.ensures c.in-Lookup.is in
-    (to-operand c.requires.0 (b), ready c.requires (b) refl)
+    (to-operand c.decreases b, ready c.requires b refl)
 
 pub integer-looked_up-requires : goal.integer-looked_up-requires
 integer-looked_up-requires t c = c.requires.laid
 
 pub integer-sum-m-requires : goal.integer-sum-m-requires
 integer-sum-m-requires t c = let b = integer-smaller c.requires c.integer_node.ensures c.in-Sum.is in
-    (to-operand c.requires.0 (b), ready c.requires (b) refl)
+    (to-operand c.decreases b, ready c.requires b refl)
 
 pub integer-returns-in-Constant : goal.integer-returns-in-Constant
 integer-returns-in-Constant t c = let ρ = meant c.args.reading in
@@ -158,7 +144,7 @@ pub operand-leaf_at-requires : goal.operand-leaf_at-requires
 operand-leaf_at-requires t c = (node_in c.requires, c.requires.wide)
 
 pub operand-integer-requires : goal.operand-integer-requires
-operand-integer-requires t c = (same-node c.args.n.0 c.requires.0, c.requires)
+operand-integer-requires t c = (same-node c.args.n.0 c.decreases, c.requires)
 
 pub operand-returns-in-Is : goal.operand-returns-in-Is
 operand-returns-in-Is t c = (leaf-case c.requires (meant c.args.reading) c.args.assignment.now c.leaf_at.ensures c.in-Is.is, refl)
@@ -199,7 +185,7 @@ quantified-bounds-setting-i-in-loop-k t c = let e = c.range_of-range.ensures in
 
 pub quantified-truth-m-requires : goal.quantified-truth-m-requires
 quantified-truth-m-requires t c = let e = c.range_of-range.ensures in
-    (same-node c.args.body.0 c.requires.0, put-ready c.args.s.0 (to_z w32 (of_z w32 c.value_in.result)) c.requires c.loop-k.invariant.kept)
+    (same-node c.args.body.0 c.decreases, put-ready c.args.s.0 (to_z w32 (of_z w32 c.value_in.result)) c.requires c.loop-k.invariant.kept)
 
 pub quantified-offset_bounds-setting-i-in-loop-k-2 : goal.quantified-offset_bounds-setting-i-in-loop-k-2
 quantified-offset_bounds-setting-i-in-loop-k-2 t c = let e = c.range_of-range.ensures in
@@ -218,7 +204,6 @@ quantified-loop-k-smaller t c = one_less c.loop-k-test.true
 
 pub quantified-loop-k-preserved : goal.quantified-loop-k-preserved
 quantified-loop-k-preserved t c = let e = c.range_of-range.ensures in
-    let told = c.struct_told-1.given in
     record {
       within = omega (arith, c.loop-k-test.true);
       kept = restored c.args.setting.now c.args.s.0 _ (search rules) c.loop-k.invariant.kept c.truth-m.ensures.1;
@@ -262,7 +247,7 @@ sum-bounds-setting-i-in-loop-k t c = let e = c.range_of-range.ensures in
 
 pub sum-integer-m-requires : goal.sum-integer-m-requires
 sum-integer-m-requires t c = let e = c.range_of-range.ensures in
-    (same-node c.args.body.0 c.requires.0, put-ready c.args.s.0 (to_z w32 (of_z w32 c.value_in.result)) c.requires c.loop-k.invariant.kept)
+    (same-node c.args.body.0 c.decreases, put-ready c.args.s.0 (to_z w32 (of_z w32 c.value_in.result)) c.requires c.loop-k.invariant.kept)
 
 pub sum-offset_bounds-setting-i-in-loop-k-2 : goal.sum-offset_bounds-setting-i-in-loop-k-2
 sum-offset_bounds-setting-i-in-loop-k-2 t c = let e = c.range_of-range.ensures in
@@ -285,7 +270,6 @@ sum-loop-k-smaller t c = one_less c.loop-k-test.true
 
 pub sum-loop-k-preserved : goal.sum-loop-k-preserved
 sum-loop-k-preserved t c = let e = c.range_of-range.ensures in
-    let told = c.struct_told-1.given in
     record {
       within = omega (arith, c.loop-k-test.true);
       kept = restored c.args.setting.now c.args.s.0 _ (search rules) c.loop-k.invariant.kept c.integer-m.ensures.1;
@@ -302,62 +286,62 @@ truth-truth_node-requires t c = node_in c.requires
 
 pub truth-operand-x-requires : goal.truth-operand-x-requires
 truth-operand-x-requires t c = let b = truth-smaller c.requires c.truth_node.ensures c.in-Lookup.is in
-    (to-operand c.requires.0 (b), ready c.requires (b) refl)
+    (to-operand c.decreases b, ready c.requires b refl)
 
 pub truth-looked_up_truth-requires : goal.truth-looked_up_truth-requires
 truth-looked_up_truth-requires t c = c.requires.laid
 
 pub truth-truth-x-requires : goal.truth-truth-x-requires
 truth-truth-x-requires t c = let b = truth-smaller c.requires c.truth_node.ensures c.in-Connected.is in
-    (to-node c.requires.0 b.0, ready c.requires b.0 refl)
+    (to-node c.decreases b.0, ready c.requires b.0 refl)
 
 pub truth-truth-y-requires : goal.truth-truth-y-requires
 truth-truth-y-requires t c = let b = truth-smaller c.requires c.truth_node.ensures c.in-Connected.is in
-    (to-node c.requires.0 b.1, ready c.requires b.1 c.truth-x.ensures.1)
+    (to-node c.decreases b.1, ready c.requires b.1 c.truth-x.ensures.1)
 
 pub truth-truth-requires : goal.truth-truth-requires
 truth-truth-requires t c = let b = truth-smaller c.requires c.truth_node.ensures c.in-Not.is in
-    (to-node c.requires.0 (b), ready c.requires (b) refl)
+    (to-node c.decreases b, ready c.requires b refl)
 
 pub truth-operand-x-requires-in-Equal : goal.truth-operand-x-requires-in-Equal
 truth-operand-x-requires-in-Equal t c = let b = truth-smaller c.requires c.truth_node.ensures c.in-Equal.is in
-    (to-operand c.requires.0 b.0, ready c.requires b.0 refl)
+    (to-operand c.decreases b.0, ready c.requires b.0 refl)
 
 pub truth-operand-y-requires : goal.truth-operand-y-requires
 truth-operand-y-requires t c = let b = truth-smaller c.requires c.truth_node.ensures c.in-Equal.is in
-    (to-operand c.requires.0 b.1, ready c.requires b.1 c.operand-x-in-Equal.ensures.1)
+    (to-operand c.decreases b.1, ready c.requires b.1 c.operand-x-in-Equal.ensures.1)
 
 pub truth-operand-x-requires-in-Unequal : goal.truth-operand-x-requires-in-Unequal
 truth-operand-x-requires-in-Unequal t c = let b = truth-smaller c.requires c.truth_node.ensures c.in-Unequal.is in
-    (to-operand c.requires.0 b.0, ready c.requires b.0 refl)
+    (to-operand c.decreases b.0, ready c.requires b.0 refl)
 
 pub truth-operand-y-requires-in-Unequal : goal.truth-operand-y-requires-in-Unequal
 truth-operand-y-requires-in-Unequal t c = let b = truth-smaller c.requires c.truth_node.ensures c.in-Unequal.is in
-    (to-operand c.requires.0 b.1, ready c.requires b.1 c.operand-x-in-Unequal.ensures.1)
+    (to-operand c.decreases b.1, ready c.requires b.1 c.operand-x-in-Unequal.ensures.1)
 
 pub truth-operand-x-requires-in-AtMost : goal.truth-operand-x-requires-in-AtMost
 truth-operand-x-requires-in-AtMost t c = let b = truth-smaller c.requires c.truth_node.ensures c.in-AtMost.is in
-    (to-operand c.requires.0 b.0, ready c.requires b.0 refl)
+    (to-operand c.decreases b.0, ready c.requires b.0 refl)
 
 pub truth-operand-y-requires-in-AtMost : goal.truth-operand-y-requires-in-AtMost
 truth-operand-y-requires-in-AtMost t c = let b = truth-smaller c.requires c.truth_node.ensures c.in-AtMost.is in
-    (to-operand c.requires.0 b.1, ready c.requires b.1 c.operand-x-in-AtMost.ensures.1)
+    (to-operand c.decreases b.1, ready c.requires b.1 c.operand-x-in-AtMost.ensures.1)
 
 pub truth-operand-x-requires-in-Below : goal.truth-operand-x-requires-in-Below
 truth-operand-x-requires-in-Below t c = let b = truth-smaller c.requires c.truth_node.ensures c.in-Below.is in
-    (to-operand c.requires.0 b.0, ready c.requires b.0 refl)
+    (to-operand c.decreases b.0, ready c.requires b.0 refl)
 
 pub truth-operand-y-requires-in-Below : goal.truth-operand-y-requires-in-Below
 truth-operand-y-requires-in-Below t c = let b = truth-smaller c.requires c.truth_node.ensures c.in-Below.is in
-    (to-operand c.requires.0 b.1, ready c.requires b.1 c.operand-x-in-Below.ensures.1)
+    (to-operand c.decreases b.1, ready c.requires b.1 c.operand-x-in-Below.ensures.1)
 
 pub truth-quantified-m-requires : goal.truth-quantified-m-requires
 truth-quantified-m-requires t c = let b = truth-smaller c.requires c.truth_node.ensures c.in-Exists.is in
-    (to-operand c.requires.0 (b), ready c.requires (b) refl)
+    (to-operand c.decreases b, ready c.requires b refl)
 
 pub truth-quantified-m-requires-in-Forall : goal.truth-quantified-m-requires-in-Forall
 truth-quantified-m-requires-in-Forall t c = let b = truth-smaller c.requires c.truth_node.ensures c.in-Forall.is in
-    (to-operand c.requires.0 (b), ready c.requires (b) refl)
+    (to-operand c.decreases b, ready c.requires b refl)
 
 pub truth-returns-in-Constant : goal.truth-returns-in-Constant
 truth-returns-in-Constant t c = let ρ = meant c.args.reading in
