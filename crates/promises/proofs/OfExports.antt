@@ -31,7 +31,7 @@ use Rattle.demands.proofs.Demands.{demand_1, demand_2, demand_3}
 
 -- the struct of each answer
 abbrev struct_of : Answers.Answer → Answer
-struct_of a = record { number = a.number; «record» = a.at; steps = a.steps; length = a.length_written; all_true = a.all-true }
+struct_of a = record { number = a.number; «record» = a.at; steps = a.steps; length = a.length_written; all_true = a.all_true }
 
 -- ---- barfigol_check
 
