@@ -1,4 +1,5 @@
 -- `assignment::check_assignment` meets its contract.
+use mir.Syntax.{w32}
 use Prim.Native.Nat.{◌-◌}
 use native.Mathlib.Omega.{arith}
 use mir.Facts.{to_z-of_z}
@@ -36,13 +37,13 @@ overflow_add-result c = let l = laid c.args.s.now c.requires.passed c.requires.a
 pub returns-then-not-inside : goal.returns-then-not-inside
 unfolding variable_count variables_at
 returns-then-not-inside c = let l = laid c.args.s.now c.requires.passed c.requires.at_value in
-    outside-at c.args.s.now c.args.assignment.now c.loop-v.v c.loop-v.invariant.0 (omega (arith, l, l.order)) (omega arith) (to_z-of_z (search rules)) c.inside.ensures
+    outside-at c.args.s.now c.args.assignment.now c.loop-v.v c.loop-v.invariant.0 (omega (arith, l, l.order)) (omega arith) (to_z-of_z {w = w32} (search rules)) c.inside.ensures
     c.if-not-inside.true (omega (arith, l, l.order))
 
 pub loop-v-preserved : goal.loop-v-preserved
 unfolding variable_count variables_at
 loop-v-preserved c = let l = laid c.args.s.now c.requires.passed c.requires.at_value in (
-      inside-more c.args.s.now c.args.assignment.now c.loop-v.v c.loop-v.invariant.0 (omega (arith, l, l.order)) (omega arith) (to_z-of_z (search rules)) c.inside.ensures
+      inside-more c.args.s.now c.args.assignment.now c.loop-v.v c.loop-v.invariant.0 (omega (arith, l, l.order)) (omega arith) (to_z-of_z {w = w32} (search rules)) c.inside.ensures
           c.if-not-inside.false,
       omega arith,
     )

@@ -1,4 +1,5 @@
 -- `bounds::array_hulls` meets its contract.
+use mir.Syntax.{w64}
 use Rattle.bounds.proofs.Declared.{array-elements, behind-inside, hulls_of}
 use mir.Facts.{to_z-of_z}
 use Rattle.layout.proofs.Order.{laid}
@@ -15,7 +16,7 @@ use Rattle.bounds.proofs.array_hulls.Goals as goal
 
 -- an array number below the count, and below the most arrays there are
 counted : (c : In-loop-a) → c.loop-a.a < length (array_records c.args.s.now)
-counted c = let e = c in let l = laid e.args.s.now e.requires.0 e.requires.1.0 in omega (arith, l.tally)
+counted c = let l = laid c.args.s.now c.requires.passed c.requires.at_value in omega (arith, l.tally)
 
 few : (c : In-loop-a) → c.loop-a.a < most_arrays
 few c = omega (arith, counted c, c.requires.passed.few_arrays)
@@ -27,31 +28,31 @@ pub loop-a-init : goal.loop-a-init
 loop-a-init c = (filled_none _ _ _ c.requires.lows_value, filled_none _ _ _ c.requires.highs_value, omega arith)
 
 pub offset_bounds-places-a : goal.offset_bounds-places-a
-offset_bounds-places-a c = omega (arith, few c)
+offset_bounds-places-a c = omega (arith, (laid c.args.s.now c.requires.passed c.requires.at_value).tally, c.requires.passed.few_arrays)
 
 pub bounds-places-a : goal.bounds-places-a
-bounds-places-a c = omega (arith, few c)
+bounds-places-a c = omega (arith, (laid c.args.s.now c.requires.passed c.requires.at_value).tally, c.requires.passed.few_arrays)
 
 pub elements-all-requires : goal.elements-all-requires
 elements-all-requires c = record { passed = c.requires.passed; at_value = c.requires.at_value; p_bound = behind-inside c.args.s.now c.requires.passed c.loop-a.a (counted c) (c.array_records-places.ensures.held c.loop-a.a) }
 
 pub offset_bounds-lows-a : goal.offset_bounds-lows-a
-offset_bounds-lows-a c = omega (arith, few c)
+offset_bounds-lows-a c = omega (arith, few (goal.at.offset_bounds-lows-a c).In-loop-a)
 
 pub bounds-lows-a : goal.bounds-lows-a
-bounds-lows-a c = omega (arith, few c, c.loop-a.invariant.0.sized)
+bounds-lows-a c = omega (arith, few (goal.at.bounds-lows-a c).In-loop-a, c.loop-a.invariant.0.sized)
 
 pub offset_bounds-highs-a : goal.offset_bounds-highs-a
-offset_bounds-highs-a c = omega (arith, few c)
+offset_bounds-highs-a c = omega (arith, few (goal.at.offset_bounds-highs-a c).In-loop-a)
 
 pub bounds-highs-a : goal.bounds-highs-a
-bounds-highs-a c = omega (arith, few c, c.loop-a.invariant.1.sized)
+bounds-highs-a c = omega (arith, few (goal.at.bounds-highs-a c).In-loop-a, c.loop-a.invariant.1.sized)
 
 pub overflow_add-a : goal.overflow_add-a
-overflow_add-a c = omega (arith, few c)
+overflow_add-a c = omega (arith, few (goal.at.overflow_add-a c).In-loop-a)
 
 pub loop-a-preserved : goal.loop-a-preserved
-loop-a-preserved c = let e = c.elements-all.ensures ∙ array-elements c.args.s.now c.loop-a.a (counted c) (c.array_records-places.ensures.held c.loop-a.a) in (filled_more _ _ _ c.loop-a.invariant.0 (omega (arith, few c)) (to_z-of_z (record { sfits = c.struct_told-1.given.0.1 }) ∙ ap (λ (i : Interval). i.low) e), filled_more _ _ _ c.loop-a.invariant.1 (omega (arith, few c)) (to_z-of_z (record { sfits = c.struct_told-in-loop-a-1.given.1.0.1 }) ∙ ap (λ (i : Interval). i.high) e), omega arith)
+loop-a-preserved c = let d = (goal.at.loop-a-preserved c).In-loop-a in let e = c.elements-all.ensures ∙ array-elements c.args.s.now c.loop-a.a (counted d) (c.array_records-places.ensures.held c.loop-a.a) in (filled_more _ _ _ c.loop-a.invariant.0 (omega (arith, few d)) (to_z-of_z {w = w64} (record { sfits = c.struct_told-1.given.0.1 }) ∙ ap (λ (i : Interval). i.low) e), filled_more _ _ _ c.loop-a.invariant.1 (omega (arith, few d)) (to_z-of_z {w = w64} (record { sfits = c.struct_told-in-loop-a-1.given.1.0.1 }) ∙ ap (λ (i : Interval). i.high) e), omega arith)
 
 pub shape_of-lows : goal.shape_of-lows
 shape_of-lows c = c.loop-a.invariant.0.sized ∙ sym (ap length c.requires.lows_value)

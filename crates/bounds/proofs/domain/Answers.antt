@@ -1,4 +1,5 @@
 -- `bounds::domain` meets its contract.
+use mir.Syntax.{w64}
 use Rattle.bounds.proofs.Declared.{domain_of, no-domain}
 use Rattle.intervals.proofs.Spans.{to-cong}
 use Rattle.layout.proofs.Order.{laid}
@@ -20,7 +21,7 @@ y_at-requires c = let l = laid c.args.s.now c.requires.passed c.requires.at_valu
 
 pub returns-then-v-end : goal.returns-then-v-end
 unfolding variable_count variables_at
-returns-then-v-end c = let l = laid _ c.requires.passed c.requires.at_value in to-cong (to_z-of_z (record { sfits = c.x_at.type_inv }) ∙ c.x_at.ensures) (to_z-of_z (record { sfits = c.y_at.type_inv }) ∙ c.y_at.ensures) ∙ domain_of _ c.args.v (omega (arith, l, l.order)) (omega arith)
+returns-then-v-end c = let l = laid _ c.requires.passed c.requires.at_value in to-cong (to_z-of_z {w = w64} (record { sfits = c.x_at.type_inv }) ∙ c.x_at.ensures) (to_z-of_z {w = w64} (record { sfits = c.y_at.type_inv }) ∙ c.y_at.ensures) ∙ domain_of _ c.args.v (omega (arith, l, l.order)) (omega arith)
 
 pub returns-else-v-end : goal.returns-else-v-end
 unfolding variable_count variables_at

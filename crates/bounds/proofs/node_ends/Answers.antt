@@ -1,4 +1,5 @@
 -- `bounds::node_ends` meets its contract.
+use mir.Syntax.{w64}
 use mathlib.Core.List.{List}
 use lib.ListN.{get_or}
 use lib.IntN.{pos, nat_abs}
@@ -91,70 +92,70 @@ pub slot_ends-requires : goal.slot_ends-requires
 slot_ends-requires c = record { passed = c.requires.passed; at_value = c.requires.at_value }
 
 pub plus-requires : goal.plus-requires
-plus-requires c = record { small = small-a c; small_2 = small_b c }
+plus-requires c = let d = (goal.at.plus-requires c).After-kind_at in record { small = small-a d; small_2 = small_b d }
 
 pub minus-requires : goal.minus-requires
-minus-requires c = record { small = small-a c; small_2 = small_b c }
+minus-requires c = let d = (goal.at.minus-requires c).After-kind_at in record { small = small-a d; small_2 = small_b d }
 
 pub times-requires : goal.times-requires
-times-requires c = record { small = small-a c; small_2 = small_b c }
+times-requires c = let d = (goal.at.times-requires c).After-kind_at in record { small = small-a d; small_2 = small_b d }
 
 pub quotients-requires : goal.quotients-requires
-quotients-requires c = small-a c
+quotients-requires c = small-a (goal.at.quotients-requires c).After-kind_at
 
 pub remainders-requires : goal.remainders-requires
-remainders-requires c = small_b c
+remainders-requires c = small_b (goal.at.remainders-requires c).After-kind_at
 
 pub negated-requires : goal.negated-requires
-negated-requires c = small-a c
+negated-requires c = small-a (goal.at.negated-requires c).After-kind_at
 
 pub slot_ends-requires-in-17 : goal.slot_ends-requires-in-17
 slot_ends-requires-in-17 c = record { passed = c.requires.passed; at_value = c.requires.at_value }
 
 pub summed-requires : goal.summed-requires
-summed-requires c = record { narrow = c.slot_ends-in-17.ensures.narrow; small = small_b c }
+summed-requires c = record { narrow = c.slot_ends-in-17.ensures.narrow; small = small_b (goal.at.summed-requires c).After-kind_at }
 
 pub returns-in-1 : goal.returns-in-1
-returns-in-1 c = c.only.ensures ∙ ap only (to_z-of_z (record { sfits = c.x_at.type_inv }) ∙ c.x_at.ensures) ∙ Nodes.constant-ends (bytes c) (number c) (place c) (kind_is c c.in-1.is)
+returns-in-1 c = let d = (goal.at.returns-in-1 c).After-kind_at in c.only.ensures ∙ ap only (to_z-of_z {w = w64} (record { sfits = c.x_at.type_inv }) ∙ c.x_at.ensures) ∙ Nodes.constant-ends (bytes d) (number d) (place d) (kind_is d c.in-1.is)
 
 pub returns-in-3 : goal.returns-in-3
-returns-in-3 c = c.domain.ensures ∙ ap (variable_interval (declarations (bytes c))) (x_is c) ∙ Nodes.variable-ends (bytes c) (number c) (place c) (kind_is c c.in-3.is)
+returns-in-3 c = let d = (goal.at.returns-in-3 c).After-kind_at in c.domain.ensures ∙ ap (variable_interval (declarations (bytes d))) (x_is d) ∙ Nodes.variable-ends (bytes d) (number d) (place d) (kind_is d c.in-3.is)
 
 pub returns-in-5 : goal.returns-in-5
-returns-in-5 c = c.slot_values.ensures ∙ ap slot_interval (c.slot_ends.ensures.result_value ∙ ap (slot_at (declarations (bytes c))) (x_is c)) ∙ Nodes.slot-ends (bytes c) (number c) (place c) (kind_is c c.in-5.is)
+returns-in-5 c = let d = (goal.at.returns-in-5 c).After-kind_at in c.slot_values.ensures ∙ ap slot_interval (c.slot_ends.ensures.result_value ∙ ap (slot_at (declarations (bytes d))) (x_is d)) ∙ Nodes.slot-ends (bytes d) (number d) (place d) (kind_is d c.in-5.is)
 
 pub returns-in-6 : goal.returns-in-6
-returns-in-6 c = c.plus.ensures ∙ both-cong (arith_interval plus) (a-is c) (b-is c) ∙ Nodes.plus-ends (bytes c) (number c) (place c) (kind_is c c.in-6.is)
+returns-in-6 c = let d = (goal.at.returns-in-6 c).After-kind_at in c.plus.ensures ∙ both-cong (arith_interval plus) (a-is d) (b-is d) ∙ Nodes.plus-ends (bytes d) (number d) (place d) (kind_is d c.in-6.is)
 
 pub returns-in-7 : goal.returns-in-7
-returns-in-7 c = c.minus.ensures ∙ both-cong (arith_interval minus) (a-is c) (b-is c) ∙ Nodes.minus-ends (bytes c) (number c) (place c) (kind_is c c.in-7.is)
+returns-in-7 c = let d = (goal.at.returns-in-7 c).After-kind_at in c.minus.ensures ∙ both-cong (arith_interval minus) (a-is d) (b-is d) ∙ Nodes.minus-ends (bytes d) (number d) (place d) (kind_is d c.in-7.is)
 
 pub returns-in-8 : goal.returns-in-8
-returns-in-8 c = c.times.ensures ∙ both-cong (arith_interval times) (a-is c) (b-is c) ∙ Nodes.times-ends (bytes c) (number c) (place c) (kind_is c c.in-8.is)
+returns-in-8 c = let d = (goal.at.returns-in-8 c).After-kind_at in c.times.ensures ∙ both-cong (arith_interval times) (a-is d) (b-is d) ∙ Nodes.times-ends (bytes d) (number d) (place d) (kind_is d c.in-8.is)
 
 pub returns-in-9 : goal.returns-in-9
-returns-in-9 c = c.quotients.ensures ∙ both-cong (divide_interval quot) (a-is c) (b-is c) ∙ Nodes.quotient-ends (bytes c) (number c) (place c) (kind_is c c.in-9.is)
+returns-in-9 c = let d = (goal.at.returns-in-9 c).After-kind_at in c.quotients.ensures ∙ both-cong (divide_interval quot) (a-is d) (b-is d) ∙ Nodes.quotient-ends (bytes d) (number d) (place d) (kind_is d c.in-9.is)
 
 pub returns-in-10 : goal.returns-in-10
-returns-in-10 c = c.remainders.ensures ∙ both-cong (divide_interval rem) (a-is c) (b-is c) ∙ Nodes.remainder-ends (bytes c) (number c) (place c) (kind_is c c.in-10.is)
+returns-in-10 c = let d = (goal.at.returns-in-10 c).After-kind_at in c.remainders.ensures ∙ both-cong (divide_interval rem) (a-is d) (b-is d) ∙ Nodes.remainder-ends (bytes d) (number d) (place d) (kind_is d c.in-10.is)
 
 pub returns-in-11 : goal.returns-in-11
-returns-in-11 c = c.negated.ensures ∙ ap opposite (a-is c) ∙ Nodes.negate-ends (bytes c) (number c) (place c) (kind_is c c.in-11.is)
+returns-in-11 c = let d = (goal.at.returns-in-11 c).After-kind_at in c.negated.ensures ∙ ap opposite (a-is d) ∙ Nodes.negate-ends (bytes d) (number d) (place d) (kind_is d c.in-11.is)
 
 pub returns-in-12 : goal.returns-in-12
-returns-in-12 c = c.lesser.ensures ∙ both-cong (arith_interval minimum) (a-is c) (b-is c) ∙ Nodes.minimum-ends (bytes c) (number c) (place c) (kind_is c c.in-12.is)
+returns-in-12 c = let d = (goal.at.returns-in-12 c).After-kind_at in c.lesser.ensures ∙ both-cong (arith_interval minimum) (a-is d) (b-is d) ∙ Nodes.minimum-ends (bytes d) (number d) (place d) (kind_is d c.in-12.is)
 
 pub returns-in-13 : goal.returns-in-13
-returns-in-13 c = c.greater.ensures ∙ both-cong (arith_interval maximum) (a-is c) (b-is c) ∙ Nodes.maximum-ends (bytes c) (number c) (place c) (kind_is c c.in-13.is)
+returns-in-13 c = let d = (goal.at.returns-in-13 c).After-kind_at in c.greater.ensures ∙ both-cong (arith_interval maximum) (a-is d) (b-is d) ∙ Nodes.maximum-ends (bytes d) (number d) (place d) (kind_is d c.in-13.is)
 
 pub returns-in-14 : goal.returns-in-14
-returns-in-14 c = Nodes.bool_to_int-ends (bytes c) (number c) (place c) (kind_is c c.in-14.is)
+returns-in-14 c = let d = (goal.at.returns-in-14 c).After-kind_at in Nodes.bool_to_int-ends (bytes d) (number d) (place d) (kind_is d c.in-14.is)
 
 pub returns-in-15 : goal.returns-in-15
-returns-in-15 c = c.operand.ensures ∙ to-cong (hull-low c) (hull-high c) ∙ Nodes.lookup-ends (bytes c) (number c) (place c) (kind_is c c.in-15.is)
+returns-in-15 c = let d = (goal.at.returns-in-15 c).After-kind_at in c.operand.ensures ∙ to-cong (hull-low d) (hull-high d) ∙ Nodes.lookup-ends (bytes d) (number d) (place d) (kind_is d c.in-15.is)
 
 pub returns-in-17 : goal.returns-in-17
-returns-in-17 c = c.summed.ensures ∙ both-cong (λ (s : Slot) (i : Interval). repeated (count s) i) (c.slot_ends-in-17.ensures.result_value ∙ ap (slot_at (declarations (bytes c))) (x_is c)) (b-is c) ∙ Nodes.sum-ends (bytes c) (number c) (place c) (kind_is c c.in-17.is)
+returns-in-17 c = let d = (goal.at.returns-in-17 c).After-kind_at in c.summed.ensures ∙ both-cong (λ (s : Slot) (i : Interval). repeated (count s) i) (c.slot_ends-in-17.ensures.result_value ∙ ap (slot_at (declarations (bytes d))) (x_is d)) (b-is d) ∙ Nodes.sum-ends (bytes d) (number d) (place d) (kind_is d c.in-17.is)
 
 pub returns-in_default : goal.returns-in_default
-returns-in_default c = Nodes.other-ends (bytes c) (number c) (place c) _ c.in_default.in_default-own.rest (sym c.kind_at.ensures)
+returns-in_default c = let d = (goal.at.returns-in_default c).After-kind_at in Nodes.other-ends (bytes d) (number d) (place d) _ c.in_default.in_default-own.rest (sym c.kind_at.ensures)

@@ -26,23 +26,17 @@ enter_slots-requires c = record { count_bound = omega (arith, slots_counted _ c.
 
 pub enter_variables-requires : goal.enter_variables-requires
 unfolding blank variables_at
-enter_variables-requires c = record { count_bound = omega (arith, variables-counted _ c.requires.places, variables-few _ c.requires); facts_len = (
-    ap length c.enter_slots.ensures ∙ length-entered 3 _ _ _ ∙ length-blank,
-    λ v h. (variables-section _ c.requires.few c.requires.whole).within v (omega (arith, variables-counted _ c.requires.places)),
-  ); by_index =  }
+enter_variables-requires c = record { count_bound = omega (arith, variables-counted _ c.requires.places, variables-few _ c.requires); facts_len = ap length c.enter_slots.ensures ∙ length-entered 3 _ _ _ ∙ length-blank; by_index = λ v h. (variables-section _ c.requires.few c.requires.whole).within v (omega (arith, variables-counted _ c.requires.places)) }
 
 pub enter_arrays-requires : goal.enter_arrays-requires
 unfolding blank
-enter_arrays-requires c = let h = (
-  ap length c.enter_variables.ensures ∙ length-entered 83 _ _ _ ∙ ap length c.enter_slots.ensures ∙ length-entered 3 _ _ _ ∙ length-blank,
-  record {
+enter_arrays-requires c = record { facts_len = ap length c.enter_variables.ensures ∙ length-entered 83 _ _ _ ∙ ap length c.enter_slots.ensures ∙ length-entered 3 _ _ _ ∙ length-blank; arrays = record {
     whole = c.requires.whole;
     few_records = c.requires.few;
     first = arrays-place _ c.requires.places;
     counted = array_count _ c.requires.places;
     few = omega (arith, array_count _ c.requires.places, arrays-few _ c.requires);
-  },
-) in record { facts_len = h.0; arrays = h.1 }
+  } }
 
 pub nodes-c-requires : goal.nodes-c-requires
 nodes-c-requires c = record {

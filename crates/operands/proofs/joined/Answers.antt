@@ -1,6 +1,5 @@
 -- `operands::joined` meets its contract: the sets of slots stay below bit 31.
 use mathlib.Core.Path.{◌≡◌}
-use mathlib.Core.Logic.{⊎_elim}
 use mathlib.Core.Bool.{cond}
 use Prim.Native.Nat.{ℕ, ◌-◌, ◌/◌, ◌^◌, ◌<◌}
 use native.Mathlib.Nat.{lt_of_le_of_lt}
@@ -9,6 +8,7 @@ use lib.Bits.{bit_and, bit_or, and_le_l, or_lt}
 use lib.Dec.{eqb}
 use Rattle.operands.specs.Facts.{joined_of}
 use Rattle.operands.proofs.Choices.{cond-taken, cond-passed-over}
+use Rattle.operands.proofs.joined.Goals.{then-binds-eq1, else-binds-eq1}
 use Rattle.operands.proofs.joined.Goals as goal
 
 below-sign : (a b k : ℕ) → a < 2 ^ 32 → b < 2 ^ 32 → bit_and (bit_or (a / 2) (b / 2)) k < 2 ^ 31
@@ -23,6 +23,5 @@ overflow_add-result c = omega (arith, below-sign c.args.a c.args.b (4_294_967_29
 pub returns : goal.returns
 unfolding joined_of
 returns c = let e : c.if-binds-eq1.bound ≡ cond (eqb c.args.binds 1) (c.args.a / 2) 0 =
-    ⊎_elim (λ w. cond-taken c.args.binds 1 _ w.0.taken w.1) (λ w. cond-passed-over c.args.binds 1 _ w.0.left w.1)
-    c.if-binds-eq1.branch in
+    elim c.if-binds-eq1.branch [ then-binds-eq1 w ↦ cond-taken c.args.binds 1 _ w.if-binds-eq1.true w.bound-is | else-binds-eq1 w ↦ cond-passed-over c.args.binds 1 _ w.if-binds-eq1.false w.bound-is ] in
     rw e

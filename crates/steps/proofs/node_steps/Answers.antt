@@ -18,8 +18,11 @@ use Rattle.steps.proofs.Caps.{capped-low}
 use Rattle.steps.proofs.Slots.{few_values}
 use Rattle.steps.proofs.Shapes.{steps_by, steps-of-body}
 use Rattle.steps.proofs.Nodes.{kind-known, node-capped}
-use Rattle.steps.proofs.node_steps.Goals.{After-t12-1, After-slot_count}
+use Rattle.steps.proofs.node_steps.Goals.{After-t12-1}
 use Rattle.steps.proofs.node_steps.Goals as goal
+
+times-fits : {n b : ℕ} → n ≤ 10_000 → b ≤ past_budgets → n * b ≤ 10_000 * past_budgets
+times-fits h k = mul-le-mul h k
 
 -- ---- what is known where the shape has been read
 
@@ -45,15 +48,14 @@ module _ (d : After-t12-1) where
   small_b : b ≤ past_budgets
   small_b = rw d.kept-b.ensures (d.requires.kept.small _)
 
+  body-small : {k : ℕ} → k ≡ count (slot_at (declarations bytes) x) → k * b ≤ 10_000 * past_budgets
+  body-small e = times-fits (rw e (few_values bytes d.requires.s_value x)) small_b
+
   steps-by : {n : ℕ} → shape ≡ n → capped (steps_by n a b (count (slot_at (declarations bytes) x))) ≡ capped (cost (declarations bytes) (tree_at (node_trees bytes) d.args.n))
   steps-by e =
-      let s = d in
-      let l = laid bytes (checked bytes s.pre.0) s.pre.1.0 in
-      node-capped bytes s.pre.0 s.pre.1.1.1.0 s.pre.1.1.1.1 (ap (λ k. k + s.args.n) l.nodes) d.kind_at-kind.ensures d.name_x-x.ensures
-      d.name_y-y.ensures s.pre.1.1.0 d.kept-a.ensures d.kept-b.ensures e
-
-times-fits : {n b : ℕ} → n ≤ 10_000 → b ≤ past_budgets → n * b ≤ 10_000 * past_budgets
-times-fits h k = mul-le-mul h k
+      let l = laid bytes (checked bytes d.requires.s_value) d.requires.at_value in
+      node-capped bytes d.requires.s_value d.requires.kept d.requires.n_bound (ap (λ k. k + d.args.n) l.nodes) d.kind_at-kind.ensures d.name_x-x.ensures
+      d.name_y-y.ensures d.requires.shapes_value d.kept-a.ensures d.kept-b.ensures e
 
 pub overflow_add-p : goal.overflow_add-p
 unfolding node_count record_count
@@ -82,46 +84,42 @@ bounds-shapes-kind c = let l = laid c.args.s.now (checked c.args.s.now c.require
     rw c.kind_at-kind.ensures (kind-known c.args.s.now c.requires.s_value c.requires.kept c.requires.n_bound (ap (λ k. k + c.args.n) l.nodes))
 
 pub overflow_add-a : goal.overflow_add-a
-overflow_add-a c = omega (arith, small-a c)
+overflow_add-a c = omega (arith, small-a (goal.at.overflow_add-a c).After-t12-1)
 
 pub overflow_add-b : goal.overflow_add-b
-overflow_add-b c = omega (arith, small_b c)
+overflow_add-b c = omega (arith, small_b (goal.at.overflow_add-b c).After-t12-1)
 
 pub overflow_add-a-in-3 : goal.overflow_add-a-in-3
-overflow_add-a-in-3 c = omega (arith, small-a c, small_b c)
+overflow_add-a-in-3 c = let d = (goal.at.overflow_add-a-in-3 c).After-t12-1 in omega (arith, small-a d, small_b d)
 
 pub overflow_add-a-in-3-2 : goal.overflow_add-a-in-3-2
-overflow_add-a-in-3-2 c = omega (arith, small-a c, small_b c)
+overflow_add-a-in-3-2 c = let d = (goal.at.overflow_add-a-in-3-2 c).After-t12-1 in omega (arith, small-a d, small_b d)
 
 pub slot_count-requires : goal.slot_count-requires
 slot_count-requires c = record { s_value = c.requires.s_value; at_value = c.requires.at_value }
 
-module _ (c : After-slot_count) where
-  body-small : c.slot_count.result * b c ≤ 10_000 * past_budgets
-  body-small = times-fits (rw c.slot_count.ensures (few_values (bytes c) c.requires.s_value (x c))) (small_b c)
-
 pub overflow_mul-slot_count : goal.overflow_mul-slot_count
-overflow_mul-slot_count c = omega (arith, body-small c)
+overflow_mul-slot_count c = omega (arith, body-small (goal.at.overflow_mul-slot_count c).After-t12-1 c.slot_count.ensures)
 
 pub overflow_add-slot_count : goal.overflow_add-slot_count
-overflow_add-slot_count c = omega (arith, body-small c)
+overflow_add-slot_count c = omega (arith, body-small (goal.at.overflow_add-slot_count c).After-t12-1 c.slot_count.ensures)
 
 pub returns-in-0 : goal.returns-in-0
 unfolding steps_by
-returns-in-0 c = sym (capped-low 1 (omega arith)) ∙ steps-by c c.in-0.is
+returns-in-0 c = sym (capped-low 1 (omega arith)) ∙ steps-by (goal.at.returns-in-0 c).After-t12-1 c.in-0.is
 
 pub returns-in-1 : goal.returns-in-1
 unfolding steps_by
-returns-in-1 c = c.capped.ensures ∙ steps-by c c.in-1.is
+returns-in-1 c = c.capped.ensures ∙ steps-by (goal.at.returns-in-1 c).After-t12-1 c.in-1.is
 
 pub returns-in-2 : goal.returns-in-2
 unfolding steps_by
-returns-in-2 c = c.capped-in-2.ensures ∙ steps-by c c.in-2.is
+returns-in-2 c = c.capped-in-2.ensures ∙ steps-by (goal.at.returns-in-2 c).After-t12-1 c.in-2.is
 
 pub returns-in-3 : goal.returns-in-3
 unfolding steps_by
-returns-in-3 c = c.capped-in-3.ensures ∙ steps-by c c.in-3.is
+returns-in-3 c = c.capped-in-3.ensures ∙ steps-by (goal.at.returns-in-3 c).After-t12-1 c.in-3.is
 
 pub returns-in_default : goal.returns-in_default
-returns-in_default c = c.capped-in_default.ensures ∙ ap capped (ap (λ n. 1 + n * b c) c.slot_count.ensures ∙ steps-of-body (shape c) (a c) (b c) (count (slot_at (declarations (bytes c)) (x c))) c.in_default.in_default-own.rest)
-    ∙ steps-by c refl
+returns-in_default c = let d = (goal.at.returns-in_default c).After-t12-1 in c.capped-in_default.ensures ∙ ap capped (ap (λ n. 1 + n * b d) c.slot_count.ensures ∙ steps-of-body (shape d) (a d) (b d) (count (slot_at (declarations (bytes d)) (x d))) c.in_default.in_default-own.rest)
+    ∙ steps-by d refl

@@ -15,7 +15,7 @@ overflow_mul-at c = let l = laid c.args.s.now c.requires.passed c.requires.at_va
 
 pub copy_part-requires : goal.copy_part-requires
 unfolding record_size
-copy_part-requires c = let s = c.args.s.now in let l = laid s c.requires.passed c.requires.at_value in record { from_le_end = omega (arith, l, before-nodes s c.requires.passed); end_in_bounds = (omega (arith, l, nodes-within s c.requires.passed), omega (arith, l, c.requires.s_in_bounds, c.put_record.auto.out)); end_in_bounds_2 =  }
+copy_part-requires c = let s = c.args.s.now in let l = laid s c.requires.passed c.requires.at_value in record { from_le_end = omega (arith, l, before-nodes s c.requires.passed); end_in_bounds = omega (arith, l, nodes-within s c.requires.passed); end_in_bounds_2 = omega (arith, l, c.requires.s_in_bounds, c.put_record.auto.out) }
 
 pub shape_of-out : goal.shape_of-out
 shape_of-out c = c.copy_part.auto.out ∙ c.put_record.auto.out

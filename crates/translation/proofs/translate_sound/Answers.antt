@@ -20,13 +20,13 @@ pub check_bounds-bounds-requires : goal.check_bounds-bounds-requires
 check_bounds-bounds-requires c = record { passed = checked c.args.table.now c.requires; at_value = c.find_places-at.ensures }
 
 pub overflow_cast-p : goal.overflow_cast-p
-overflow_cast-p c = omega (arith, beyond-within c.args.table.now c.record_beyond-p.result (checked c.args.table.now c.requires) (beyond-is c.check_bounds-bounds.result c.is_Within.ensures c.if-not-within.true c.record_beyond-p.ensures ∙ c.check_bounds-bounds.ensures))
+overflow_cast-p c = omega (arith, beyond-within c.args.table.now c.record_beyond-p.result (checked c.args.table.now c.requires) (beyond-is c.check_bounds-bounds.result c.is_within-within.ensures c.if-not-within.true c.record_beyond-p.ensures ∙ c.check_bounds-bounds.ensures))
 
 pub returns-then-not-within : goal.returns-then-not-within
-returns-then-not-within c = refused-bounds c.args.table.now (meant c.args.reading) c.args.out.now c.record_beyond-p.result c.requires (beyond-is c.check_bounds-bounds.result c.is_Within.ensures c.if-not-within.true c.record_beyond-p.ensures ∙ c.check_bounds-bounds.ensures)
+returns-then-not-within c = refused-bounds c.args.table.now (meant c.args.reading) c.args.out.now c.record_beyond-p.result c.requires (beyond-is c.check_bounds-bounds.result c.is_within-within.ensures c.if-not-within.true c.record_beyond-p.ensures ∙ c.check_bounds-bounds.ensures)
 
 pub returns-then-not-room : goal.returns-then-not-room
-returns-then-not-room c = refused-room c.args.table.now (meant c.args.reading) c.args.out.now c.requires (sym c.check_bounds-bounds.ensures ∙ sound_none _ c.is_Within.ensures c.if-not-within.false)
+returns-then-not-room c = refused-room c.args.table.now (meant c.args.reading) c.args.out.now c.requires (sym c.check_bounds-bounds.ensures ∙ sound_none _ c.is_within-within.ensures c.if-not-within.false)
     c.new_records-records.result c.new_records-records.ensures c.has_room-room.ensures c.if-not-room.true
 
 pub overflow_cast-records : goal.overflow_cast-records
@@ -34,19 +34,7 @@ unfolding record_size
 overflow_cast-records c = omega (arith, size-given c.new_records-records.result (length c.args.out.now) c.has_room-room.ensures c.if-not-room.false)
 
 pub write-requires : goal.write-requires
-write-requires c = let h = (
-      c.requires,
-      (
-        c.find_places-at.ensures,
-        (
-          c.new_records-records.ensures,
-          (
-            room_given c.new_records-records.result (length c.args.out.now) c.has_room-room.ensures c.if-not-room.false,
-            size-given c.new_records-records.result (length c.args.out.now) c.has_room-room.ensures c.if-not-room.false,
-          ),
-        ),
-      ),
-    ) in record { table_value = h.0; at_value = h.1.0; records_value = h.1.1.0; records_in_bounds = h.1.1.1.0; records_bound = h.1.1.1.1 }
+write-requires c = record { table_value = c.requires; at_value = c.find_places-at.ensures; records_value = c.new_records-records.ensures; records_in_bounds = room_given c.new_records-records.result (length c.args.out.now) c.has_room-room.ensures c.if-not-room.false; records_bound = size-given c.new_records-records.result (length c.args.out.now) c.has_room-room.ensures c.if-not-room.false }
 
 pub overflow_mul-length : goal.overflow_mul-length
 unfolding record_size
@@ -62,6 +50,6 @@ shape_of-out c = c.write.auto.out
 pub returns : goal.returns
 unfolding record_size
 returns c = let ρ = meant c.args.reading in
-    written c.args.table.now ρ c.args.out.now c.requires (sym c.check_bounds-bounds.ensures ∙ sound_none _ c.is_Within.ensures c.if-not-within.false)
+    written c.args.table.now ρ c.args.out.now c.requires (sym c.check_bounds-bounds.ensures ∙ sound_none _ c.is_within-within.ensures c.if-not-within.false)
     c.new_records-records.result c.new_records-records.ensures c.has_room-room.ensures c.if-not-room.false
     (length-new c.args.table.now ρ c.requires) c.write.ensures

@@ -16,13 +16,13 @@ pub offset_bounds-arrays-x : goal.offset_bounds-arrays-x
 offset_bounds-arrays-x c = omega (arith, declared c, c.requires.known_arrays.few)
 
 pub bounds-arrays-x : goal.bounds-arrays-x
-bounds-arrays-x c = omega (arith, declared c, c.requires.known_arrays.few)
+bounds-arrays-x c = omega (arith, declared (goal.at.bounds-arrays-x c).Then-names_array, c.requires.known_arrays.few)
 
 pub array_indexes-requires : goal.array_indexes-requires
-array_indexes-requires c = rw (c.requires.arrays_held.held c.args.x) (c.requires.known_arrays.inside c.args.x (declared c))
+array_indexes-requires c = rw (c.requires.arrays_held.held c.args.x) (c.requires.known_arrays.inside c.args.x (declared (goal.at.array_indexes-requires c).Then-names_array))
 
 pub returns-then-names_array : goal.returns-then-names_array
-returns-then-names_array c = c.array_indexes.ensures ∙ looked-up c.args.s.now (declared c) (c.requires.arrays_held.held c.args.x) (sym c.names_array.ensures ∙ c.if-names_array.true)
+returns-then-names_array c = c.array_indexes.ensures ∙ looked-up c.args.s.now (declared (goal.at.returns-then-names_array c).Then-names_array) (c.requires.arrays_held.held c.args.x) (sym c.names_array.ensures ∙ c.if-names_array.true)
 
 pub returns-else-names_array : goal.returns-else-names_array
 returns-else-names_array c = not-looked-up _ (sym c.names_array.ensures ∙ c.if-names_array.false)
