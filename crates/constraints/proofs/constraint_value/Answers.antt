@@ -14,7 +14,7 @@ pub overflow_cast-n : goal.overflow_cast-n
 overflow_cast-n c = omega (arith, c.name_x-n.ensures, x_at-nat_abs-≤ c.args.s.now c.args.p)
 
 pub constraint-requires : goal.constraint-requires
-constraint-requires c = (ready-laid c.requires.prepared, omega (arith, c.name_x-n.ensures, constraint-names _ c.requires.prepared.sound c.requires.constraint_at, c.requires.prepared.placed.node_count))
+constraint-requires c = (ready-laid c.requires.prepared, omega (arith, c.name_x-n.ensures, constraint-names _ c.requires.prepared.sound c.requires.constraint_at, c.requires.prepared.placed.node_total))
 
 pub returns : goal.returns
 returns c = c.constraint.ensures ∙ ready_walked c.requires.prepared _ _ _ ∙ ap (walked_at c.args.s.now _ _) c.name_x-n.ensures

@@ -1,6 +1,5 @@
 -- `preparation::fill` meets its contract.
 use mathlib.Core.Path.{refl}
-use Prim.Native.Nat.{◌-◌}
 use native.Mathlib.Omega.{arith}
 use Rattle.preparation.proofs.Stored.{stored-padded}
 use Rattle.numbers.proofs.Lists.{filled_none, filled_more}
