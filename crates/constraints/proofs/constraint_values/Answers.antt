@@ -1,6 +1,6 @@
 -- `constraints::constraint_values` meets its contract.
 use mathlib.Core.Path.{ap}
-use Prim.Native.Nat.{◌+◌, ◌-◌}
+use Prim.Native.Nat.{◌+◌}
 use native.Mathlib.Omega.{arith}
 use borrow.Author.Tests.{not-true, not-false}
 use Rattle.answers.specs.Sections.{constraint_count}
@@ -14,9 +14,6 @@ overflow_sub-count c = let l = laid c.args.s.now (checked _ c.requires.prepared.
 
 pub loop-i-init : goal.loop-i-init
 loop-i-init c = (walked_none _ _ _, omega arith)
-
-pub overflow_add-first : goal.overflow_add-first
-overflow_add-first c = let l = laid c.args.s.now (checked _ c.requires.prepared.sound) c.requires.at_value in omega (arith, l, l.order)
 
 pub constraint_value-walked-requires : goal.constraint_value-walked-requires
 constraint_value-walked-requires c = let l = laid c.args.s.now (checked _ c.requires.prepared.sound) c.requires.at_value in record { prepared = c.requires.prepared; constraint_at = record { from = omega (arith, l); before = omega (arith, l, l.order) } }

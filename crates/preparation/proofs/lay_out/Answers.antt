@@ -1,6 +1,5 @@
 -- `preparation::lay_out` meets its contract.
 use mathlib.Core.Path.{refl, ◌∙◌}
-use Prim.Native.Nat.{◌-◌}
 use native.Mathlib.Omega.{arith}
 use Rattle.preparation.proofs.Stored.{place-array, array-few, places-laid}
 use Rattle.numbers.proofs.Lists.{filled_none, filled_more}

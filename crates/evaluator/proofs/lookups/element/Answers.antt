@@ -28,9 +28,6 @@ module _ (α : Assignment) (bs places : List ℕ) (A : ℕ) (i : ℤ) (l : Laid 
   missing : array_count places ≤ A → Undefined ≡ of_integer (element_at α (array_at (declared bs places) A) i)
   missing h = rw (array-missing bs places A h enough, element_missing α bs A i)
 
-pub element_in-requires : goal.element_in-requires
-element_in-requires c = c.requires.arrays_in c.args.array.0 c.if-array-places.true
-
 pub returns-then-array-places : goal.returns-then-array-places
 returns-then-array-places c = found c.args.assignment.now c.args.t.now c.args.places.now c.args.array.0 c.args.index c.requires c.if-array-places.true c.ranges.index c.element_in.ensures
 

@@ -51,9 +51,6 @@ module _ (α : Assignment) (bs : List ℕ) (k : ℕ) (i : ℤ) {first : ℤ} (p 
 pub x_at-first-requires : goal.x_at-first-requires
 x_at-first-requires c = record-in c.args.t.now c.args.k c.requires
 
-pub distance-along-requires : goal.distance-along-requires
-distance-along-requires c = c.if-first-index.true
-
 pub named_y-requires : goal.named_y-requires
 named_y-requires c = record-in c.args.t.now c.args.k c.requires
 

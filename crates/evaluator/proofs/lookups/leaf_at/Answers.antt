@@ -9,7 +9,7 @@ use mathlib.Core.Option.{some}
 use lib.IntN.{ℤ, nat_abs}
 use mir.Syntax.{w32}
 use mir.Val.{SFits}
-use Rattle.numbers.proofs.Widths.{through, widened, arrives}
+use Rattle.numbers.proofs.Widths.{through, arrives}
 use Rattle.language.specs.Meaning.{value_of}
 use Rattle.table.specs.Kinds.{kinds, kind_of, row_in}
 use Rattle.operations.specs.declared.values.Walked.{Walked}
@@ -28,15 +28,6 @@ leaf {z} f e h g = ap Is (h ∙ ap (λ v. limited_to true (some v)) (arrives z f
 none_of : (k : ℕ) → (k ≡ 1 → ⊥) → (k ≡ 3 → ⊥) → (k ≡ 5 → ⊥) → leaf_kind k ≡ false
 unfolding leaf_kind
 none_of k a b c = rw (ne_eqb k 1 a, ne_eqb k 3 b, ne_eqb k 5 c)
-
-pub overflow_cast-x_at : goal.overflow_cast-x_at
-overflow_cast-x_at c = widened {z = c.x_at.result} (sfits_of c.x_at.type_inv)
-
-pub overflow_cast-variable : goal.overflow_cast-variable
-overflow_cast-variable c = widened {z = c.variable.result} (sfits_of c.variable.type_inv)
-
-pub overflow_cast-slot : goal.overflow_cast-slot
-overflow_cast-slot c = widened {z = c.slot.result} (sfits_of c.slot.type_inv)
 
 pub returns-in-1 : goal.returns-in-1
 unfolding kind_of kinds leaf_of row_in

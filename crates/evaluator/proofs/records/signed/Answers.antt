@@ -29,9 +29,6 @@ high : (w : ℕ) → 2_147_483_648 ≤ w → w < 2 ^ 32 → to_z w32 (of_z w32 (
 unfolding records.signed
 high w h f = to_z-of_z (fits w h f) ∙ turned w h f ∙ rw (le-ltb w 2_147_483_648 h)
 
-pub overflow_sub-result-else-w-lt2147483648 : goal.overflow_sub-result-else-w-lt2147483648
-overflow_sub-result-else-w-lt2147483648 c = fits c.args.w c.if-w-lt2147483648.false c.ranges.w.fits
-
 pub returns-then-w-lt2147483648 : goal.returns-then-w-lt2147483648
 returns-then-w-lt2147483648 c = low c.args.w c.if-w-lt2147483648.true
 

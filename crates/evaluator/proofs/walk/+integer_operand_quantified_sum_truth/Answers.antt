@@ -1,17 +1,12 @@
 -- The cycle of the walk meets its contracts: a node's number or truth value, an operand's, and those over a slot's values.
 use borrow.Author.Rules.{rules, sfits_of}
 use mathlib.Core.Path.{◌≡◌, refl, sym, ap, subst, ◌∙◌}
-use Prim.Native.Nat.{ℕ, ◌+◌, ◌-◌, ◌*◌, ◌^◌, ◌≤◌, ◌<◌}
+use Prim.Native.Nat.{ℕ, ◌*◌, ◌^◌, ◌≤◌, ◌<◌}
 use native.Mathlib.Omega.{arith}
-use mathlib.Core.List.{List}
-use lib.ListN.{length, set, length-set}
 use Rattle.operations.specs.Sums.{total_of}
 use mathlib.Core.Bool.{true}
 use mathlib.Core.Option.{some}
-use lib.IntN.{ℤ, pos, nat_abs}
-use mir.Syntax.{w32}
-use mir.Val.{to_z, of_z}
-use Rattle.numbers.proofs.Widths.{widened}
+use lib.IntN.{pos, nat_abs}
 use Rattle.language.specs.Syntax as syntax
 use Rattle.language.specs.Readings as readings
 use Rattle.language.specs.Readings.{arithmetic, division}
@@ -21,38 +16,18 @@ use Rattle.reading.specs.Readings.{meant}
 use Rattle.operations.specs.Values.{of_walk}
 use Rattle.operations.specs.Integers.{arithmetic_of, division_of, integers, negated, numbered}
 use Rattle.operations.specs.Truths.{connective_of, compared, connected, opposed}
-use Rattle.evaluator.specs.Walks.{Ready, quantifier_of, declared, integer_at, truth_at, looked_up, looked_up_truth}
+use Rattle.evaluator.specs.Walks.{quantifier_of, declared, integer_at, truth_at, looked_up, looked_up_truth}
 use Rattle.evaluator.proofs.Decoding.{eqb-is_one}
 use Rattle.evaluator.proofs.Binding.{total-none, joint_none}
 use Rattle.evaluator.proofs.Turning.{slot-in, few-turns, value-fits, value-is, restored, sum-turn, sum_done, joint_turn, joint_done}
-use Rattle.evaluator.proofs.Stepping.{ready, to-operand, to-node, same-node, node_in, integer-smaller, truth-smaller, integer-case, truth-case, leaf-case, of_one, of_two, of_leaf}
+use Rattle.evaluator.proofs.Stepping.{ready, to-operand, to-node, integer-smaller, truth-smaller, integer-case, truth-case, leaf-case, of_one, of_two, of_leaf}
 use Rattle.evaluator.proofs.walk.+integer_operand_quantified_sum_truth.Goals as goal
-
--- the measure of a walk over a slot's values falls
-one_less : {n k : ℕ} → k < n → n - (k + 1) < n - k
-one_less h = omega arith
 
 all-turns : {n k : ℕ} → k ≤ n → n ≤ k → k ≡ n
 all-turns p q = omega arith
 
 nothing-small : {t : Total} → t ≡ total_of true (some (pos 0)) → nat_abs t.sum ≤ 0 * 2 ^ 31
 nothing-small e = rw e (omega arith)
-
--- A body is ready where one slot's value was stored.
-put-ready : {bs places : List ℕ} {values now : List ℤ} {n : ℕ} (s : ℕ) (v : ℤ) → Ready bs places values n → now ≡ values → Ready bs places (set now s v) n
-put-ready {now = now} s v l e = record { laid = l.laid; wide = length-set now s v ∙ ap length e ∙ l.wide; named = l.named }
-
-pub integer-integer_node-requires : goal.integer-integer_node-requires
-integer-integer_node-requires t c = node_in c.requires
-
-pub integer-overflow_cast-variable : goal.integer-overflow_cast-variable
-integer-overflow_cast-variable t c = widened {z = c.variable.result} (sfits_of c.variable.type_inv)
-
-pub integer-slot-requires : goal.integer-slot-requires
-integer-slot-requires t c = c.requires.wide
-
-pub integer-overflow_cast-slot : goal.integer-overflow_cast-slot
-integer-overflow_cast-slot t c = widened {z = c.slot.result} (sfits_of c.slot.type_inv)
 
 pub integer-operand-x-requires : goal.integer-operand-x-requires
 integer-operand-x-requires t c = let b = integer-smaller c.requires c.integer_node.ensures c.in-Calculated.is in
@@ -81,9 +56,6 @@ integer-truth-requires t c = let b = integer-smaller c.requires c.integer_node.e
 pub integer-operand-x-requires-in-Lookup : goal.integer-operand-x-requires-in-Lookup
 integer-operand-x-requires-in-Lookup t c = let b = integer-smaller c.requires c.integer_node.ensures c.in-Lookup.is in
     (to-operand c.decreases b, ready c.requires b refl)
-
-pub integer-looked_up-requires : goal.integer-looked_up-requires
-integer-looked_up-requires t c = c.requires.laid
 
 pub integer-sum-m-requires : goal.integer-sum-m-requires
 integer-sum-m-requires t c = let b = integer-smaller c.requires c.integer_node.ensures c.in-Sum.is in
@@ -140,28 +112,12 @@ integer-returns-in-Sum t c = let ρ = meant c.args.reading in
     let α = c.args.assignment.now in
     (c.sum-m.ensures.0 ∙ integer-case c.requires ρ α c.integer_node.ensures c.in-Sum.is, c.sum-m.ensures.1)
 
-pub operand-leaf_at-requires : goal.operand-leaf_at-requires
-operand-leaf_at-requires t c = (node_in c.requires, c.requires.wide)
-
-pub operand-integer-requires : goal.operand-integer-requires
-operand-integer-requires t c = (same-node c.args.n.0 c.decreases, c.requires)
-
 pub operand-returns-in-Is : goal.operand-returns-in-Is
 operand-returns-in-Is t c = (leaf-case c.requires (meant c.args.reading) c.args.assignment.now c.leaf_at.ensures c.in-Is.is, refl)
-
-pub operand-returns-in-Other : goal.operand-returns-in-Other
-operand-returns-in-Other t c = c.integer.ensures
-
-pub quantified-range_of-range-requires : goal.quantified-range_of-range-requires
-quantified-range_of-range-requires t c = c.requires.laid
 
 pub quantified-returns-then-count-eq0 : goal.quantified-returns-then-count-eq0
 quantified-returns-then-count-eq0 t c = let e = c.range_of-range.ensures in
     (joint_done (meant c.args.reading) c.args.t.now c.args.places.now c.args.assignment.now c.args.setting.now c.args.s.0 c.args.body.0 (quantifier_of c.args.q) 0 (c.empty.ensures ∙ joint_none (meant c.args.reading) c.args.t.now c.args.places.now c.args.assignment.now c.args.setting.now (quantifier_of c.args.q) c.args.s.0 c.args.body.0) e (sym c.if-count-eq0.true), refl)
-
-pub quantified-offset_bounds-setting-i : goal.quantified-offset_bounds-setting-i
-quantified-offset_bounds-setting-i t c = let e = c.range_of-range.ensures in
-    record { fits = omega (arith, slot-in c.requires.laid c.args.s.0 e c.if-count-eq0.false) }
 
 pub quantified-bounds-setting-i : goal.quantified-bounds-setting-i
 quantified-bounds-setting-i t c = let e = c.range_of-range.ensures in
@@ -175,32 +131,13 @@ pub quantified-value_in-requires : goal.quantified-value_in-requires
 quantified-value_in-requires t c = let e = c.range_of-range.ensures in
     value-fits c.requires.laid c.args.s.0 e c.loop-k.k (search rules) c.loop-k-test.true c.if-count-eq0.false
 
-pub quantified-offset_bounds-setting-i-in-loop-k : goal.quantified-offset_bounds-setting-i-in-loop-k
-quantified-offset_bounds-setting-i-in-loop-k t c = let e = c.range_of-range.ensures in
-    record { fits = omega (arith, slot-in c.requires.laid c.args.s.0 e c.if-count-eq0.false) }
-
 pub quantified-bounds-setting-i-in-loop-k : goal.quantified-bounds-setting-i-in-loop-k
 quantified-bounds-setting-i-in-loop-k t c = let e = c.range_of-range.ensures in
     slot-in c.requires.laid c.args.s.0 e c.if-count-eq0.false
 
-pub quantified-truth-m-requires : goal.quantified-truth-m-requires
-quantified-truth-m-requires t c = let e = c.range_of-range.ensures in
-    (same-node c.args.body.0 c.decreases, put-ready c.args.s.0 (to_z w32 (of_z w32 c.value_in.result)) c.requires c.loop-k.invariant.kept)
-
-pub quantified-offset_bounds-setting-i-in-loop-k-2 : goal.quantified-offset_bounds-setting-i-in-loop-k-2
-quantified-offset_bounds-setting-i-in-loop-k-2 t c = let e = c.range_of-range.ensures in
-    record { fits = omega (arith, slot-in c.requires.laid c.args.s.0 e c.if-count-eq0.false) }
-
 pub quantified-bounds-setting-i-in-loop-k-2 : goal.quantified-bounds-setting-i-in-loop-k-2
 quantified-bounds-setting-i-in-loop-k-2 t c = let e = c.range_of-range.ensures in
     slot-in c.requires.laid c.args.s.0 e c.if-count-eq0.false
-
-pub quantified-overflow_step-k : goal.quantified-overflow_step-k
-quantified-overflow_step-k t c = let e = c.range_of-range.ensures in
-    record { fits = omega (arith, c.loop-k-test.true, few-turns c.requires.laid c.args.s.0 e c.if-count-eq0.false) }
-
-pub quantified-loop-k-smaller : goal.quantified-loop-k-smaller
-quantified-loop-k-smaller t c = one_less c.loop-k-test.true
 
 pub quantified-loop-k-preserved : goal.quantified-loop-k-preserved
 quantified-loop-k-preserved t c = let e = c.range_of-range.ensures in
@@ -214,16 +151,9 @@ pub quantified-returns : goal.quantified-returns
 quantified-returns t c = let e = c.range_of-range.ensures in
     (joint_done (meant c.args.reading) c.args.t.now c.args.places.now c.args.assignment.now c.args.setting.now c.args.s.0 c.args.body.0 (quantifier_of c.args.q) c.loop-k.k c.loop-k.invariant.is e (all-turns c.loop-k.invariant.within c.loop-k-test.false), c.loop-k.invariant.kept)
 
-pub sum-range_of-range-requires : goal.sum-range_of-range-requires
-sum-range_of-range-requires t c = c.requires.laid
-
 pub sum-returns-then-count-eq0 : goal.sum-returns-then-count-eq0
 sum-returns-then-count-eq0 t c = let e = c.range_of-range.ensures in
     (sum_done (meant c.args.reading) c.args.t.now c.args.places.now c.args.assignment.now c.args.setting.now c.args.s.0 c.args.body.0 0 (c.nothing.ensures ∙ total-none (meant c.args.reading) c.args.t.now c.args.places.now c.args.assignment.now c.args.setting.now c.args.s.0 c.args.body.0) e (sym c.if-count-eq0.true) c.summed.ensures, refl)
-
-pub sum-offset_bounds-setting-i : goal.sum-offset_bounds-setting-i
-sum-offset_bounds-setting-i t c = let e = c.range_of-range.ensures in
-    record { fits = omega (arith, slot-in c.requires.laid c.args.s.0 e c.if-count-eq0.false) }
 
 pub sum-bounds-setting-i : goal.sum-bounds-setting-i
 sum-bounds-setting-i t c = let e = c.range_of-range.ensures in
@@ -237,21 +167,9 @@ pub sum-value_in-requires : goal.sum-value_in-requires
 sum-value_in-requires t c = let e = c.range_of-range.ensures in
     value-fits c.requires.laid c.args.s.0 e c.loop-k.k (search rules) c.loop-k-test.true c.if-count-eq0.false
 
-pub sum-offset_bounds-setting-i-in-loop-k : goal.sum-offset_bounds-setting-i-in-loop-k
-sum-offset_bounds-setting-i-in-loop-k t c = let e = c.range_of-range.ensures in
-    record { fits = omega (arith, slot-in c.requires.laid c.args.s.0 e c.if-count-eq0.false) }
-
 pub sum-bounds-setting-i-in-loop-k : goal.sum-bounds-setting-i-in-loop-k
 sum-bounds-setting-i-in-loop-k t c = let e = c.range_of-range.ensures in
     slot-in c.requires.laid c.args.s.0 e c.if-count-eq0.false
-
-pub sum-integer-m-requires : goal.sum-integer-m-requires
-sum-integer-m-requires t c = let e = c.range_of-range.ensures in
-    (same-node c.args.body.0 c.decreases, put-ready c.args.s.0 (to_z w32 (of_z w32 c.value_in.result)) c.requires c.loop-k.invariant.kept)
-
-pub sum-offset_bounds-setting-i-in-loop-k-2 : goal.sum-offset_bounds-setting-i-in-loop-k-2
-sum-offset_bounds-setting-i-in-loop-k-2 t c = let e = c.range_of-range.ensures in
-    record { fits = omega (arith, slot-in c.requires.laid c.args.s.0 e c.if-count-eq0.false) }
 
 pub sum-bounds-setting-i-in-loop-k-2 : goal.sum-bounds-setting-i-in-loop-k-2
 sum-bounds-setting-i-in-loop-k-2 t c = let e = c.range_of-range.ensures in
@@ -260,13 +178,6 @@ sum-bounds-setting-i-in-loop-k-2 t c = let e = c.range_of-range.ensures in
 pub sum-added-total-requires : goal.sum-added-total-requires
 sum-added-total-requires t c = let e = c.range_of-range.ensures in
     omega (arith, c.loop-k.invariant.small, c.loop-k-test.true, few-turns c.requires.laid c.args.s.0 e c.if-count-eq0.false)
-
-pub sum-overflow_step-k : goal.sum-overflow_step-k
-sum-overflow_step-k t c = let e = c.range_of-range.ensures in
-    record { fits = omega (arith, c.loop-k-test.true, few-turns c.requires.laid c.args.s.0 e c.if-count-eq0.false) }
-
-pub sum-loop-k-smaller : goal.sum-loop-k-smaller
-sum-loop-k-smaller t c = one_less c.loop-k-test.true
 
 pub sum-loop-k-preserved : goal.sum-loop-k-preserved
 sum-loop-k-preserved t c = let e = c.range_of-range.ensures in
@@ -281,15 +192,9 @@ pub sum-returns : goal.sum-returns
 sum-returns t c = let e = c.range_of-range.ensures in
     (sum_done (meant c.args.reading) c.args.t.now c.args.places.now c.args.assignment.now c.args.setting.now c.args.s.0 c.args.body.0 c.loop-k.k c.loop-k.invariant.is e (all-turns c.loop-k.invariant.within c.loop-k-test.false) c.summed-2.ensures, c.loop-k.invariant.kept)
 
-pub truth-truth_node-requires : goal.truth-truth_node-requires
-truth-truth_node-requires t c = node_in c.requires
-
 pub truth-operand-x-requires : goal.truth-operand-x-requires
 truth-operand-x-requires t c = let b = truth-smaller c.requires c.truth_node.ensures c.in-Lookup.is in
     (to-operand c.decreases b, ready c.requires b refl)
-
-pub truth-looked_up_truth-requires : goal.truth-looked_up_truth-requires
-truth-looked_up_truth-requires t c = c.requires.laid
 
 pub truth-truth-x-requires : goal.truth-truth-x-requires
 truth-truth-x-requires t c = let b = truth-smaller c.requires c.truth_node.ensures c.in-Connected.is in
