@@ -1,3 +1,2 @@
 // What each public call answers: definitions and laws only.
 #![tactic(auto)]
-

@@ -30,7 +30,7 @@ use Rattle.constraints.specs.Verdicts.{verdicts_of}
 use Rattle.constraints.proofs.Found.{length-verdicts, verdicts_of-within, verdicts_of-bytes, verdicts_of-all, verdicts_of-long}
 use Rattle.evaluation.specs.declared.Admission.TheVariants as admission
 use Rattle.evaluation.specs.declared.Totals.{Totals}
-use Rattle.evaluation.specs.declared.Evaluation.TheVariants.{Done, BadChoice, Unsound, Unassigned, NoRoom, OverBudget, BeyondLimit}
+use Rattle.evaluation.specs.declared.Evaluation.TheVariants.{Done, BadChoice, Unsound, BeyondLimit}
 use Rattle.evaluation.specs.Results.{answer_of, outcome_of}
 use Rattle.evaluation.specs.Admissions.{EvaluatesUnder, fault_before, outcome_after, Admits}
 

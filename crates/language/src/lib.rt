@@ -1,3 +1,2 @@
 // The language of constraints: definitions and laws only.
 #![tactic(auto)]
-

@@ -1,3 +1,2 @@
 // Whole numbers: definitions and laws only.
 #![tactic(auto)]
-

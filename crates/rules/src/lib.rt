@@ -1,3 +1,2 @@
 // The rules of translation and the bounds before it: definitions and laws only.
 #![tactic(auto)]
-

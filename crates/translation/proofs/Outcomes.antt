@@ -21,7 +21,6 @@ use Rattle.answers.proofs.Faults.{or_else-none, or_else-some}
 use Rattle.answers.proofs.SignedWords.{leb-same}
 use Rattle.answers.proofs.Declared.{length-rows}
 use Rattle.bounds.specs.declared.Bounds.{Bounds}
-use Rattle.bounds.specs.declared.Bounds.TheVariants as Bounds
 use Rattle.bounds.specs.Kept.{refusal_of}
 use Rattle.layout.specs.Passed.{Passed}
 use Rattle.layout.proofs.Order.{ordered}

@@ -3,7 +3,6 @@ use Rattle.std.specs.Prelude.{ℕ, false, List}
 use Rattle.answers.specs.Answers.{Answer, Outcome, refused, done}
 use Rattle.verdict.specs.Results as Verdict
 use Rattle.bounds.specs.declared.Bounds.{Bounds}
-use Rattle.bounds.specs.declared.Bounds.TheVariants as Bounds
 use Rattle.translation.specs.declared.Translation.{Translation}
 use Rattle.translation.specs.declared.Translation.TheVariants.{Done, BadChoice, Unsound, Beyond, NoRoom}
 

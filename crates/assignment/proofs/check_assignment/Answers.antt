@@ -1,6 +1,5 @@
 -- `assignment::check_assignment` meets its contract.
 use mir.Syntax.{w32}
-use Prim.Native.Nat.{◌-◌}
 use native.Mathlib.Omega.{arith}
 use mir.Facts.{to_z-of_z}
 use borrow.Author.Rules.{rules}
@@ -43,10 +42,10 @@ returns-then-not-inside c = let l = laid c.args.s.now c.requires.passed c.requir
 pub loop-v-preserved : goal.loop-v-preserved
 unfolding variable_count variables_at
 loop-v-preserved c = let l = laid c.args.s.now c.requires.passed c.requires.at_value in (
-      inside-more c.args.s.now c.args.assignment.now c.loop-v.v c.loop-v.invariant.0 (omega (arith, l, l.order)) (omega arith) (to_z-of_z {w = w32} (search rules)) c.inside.ensures
-          c.if-not-inside.false,
-      omega arith,
-    )
+  inside-more c.args.s.now c.args.assignment.now c.loop-v.v c.loop-v.invariant.0 (omega (arith, l, l.order)) (omega arith) (to_z-of_z {w = w32} (search rules)) c.inside.ensures
+      c.if-not-inside.false,
+  omega arith,
+)
 
 pub returns : goal.returns
 unfolding variable_count variables_at

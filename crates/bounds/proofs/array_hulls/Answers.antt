@@ -9,7 +9,7 @@ use Rattle.rules.specs.Bounds.{Interval}
 use Rattle.numbers.specs.Limits.{most_arrays}
 use lib.ListN.{length}
 use native.Mathlib.Omega.{arith}
-use Prim.Native.Nat.{◌-◌, ◌<◌}
+use Prim.Native.Nat.{◌<◌}
 use mathlib.Core.Path.{sym, ap, ◌∙◌}
 use Rattle.bounds.proofs.array_hulls.Goals.{In-loop-a}
 use Rattle.bounds.proofs.array_hulls.Goals as goal

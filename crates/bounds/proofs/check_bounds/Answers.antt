@@ -9,7 +9,7 @@ use Rattle.numbers.specs.Whole.{within_limit}
 use mir.Facts.{to_z-of_z}
 use native.Mathlib.Omega.{arith}
 use mathlib.Core.Bool.{◌&&◌}
-use Prim.Native.Nat.{◌+◌, ◌-◌}
+use Prim.Native.Nat.{◌+◌}
 use mathlib.Core.Path.{refl, sym, ap, ◌∙◌}
 use Rattle.bounds.proofs.Nodes.{passing_none, passing_more, beyond-at, passing_all, kept_of}
 use Rattle.bounds.proofs.check_bounds.Goals as goal

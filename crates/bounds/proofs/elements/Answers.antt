@@ -7,7 +7,7 @@ use Rattle.rules.specs.Bounds.{element_interval, elements_interval}
 use Rattle.table.specs.Records.{record_count, record_size}
 use native.Mathlib.Numerals.{add-one}
 use native.Mathlib.Omega.{arith}
-use Prim.Native.Nat.{suc, ◌+◌, ◌-◌}
+use Prim.Native.Nat.{suc, ◌+◌}
 use mathlib.Core.Path.{ap, ◌∙◌, sym}
 use Rattle.bounds.proofs.elements.Goals as goal
 

@@ -46,11 +46,11 @@ returns-then-not-is_sound-3 c = after (sym c.header-c.ensures ∙ sound_none _ c
 pub arrays-c-requires : goal.arrays-c-requires
 unfolding variables_at
 arrays-c-requires c = record {
-      few = few_records _ c.requires;
-      whole = whole_records _ c.requires;
-      counted = variables-counted _ c.find_places-at.ensures;
-      within = λ v h. (variables-section _ (few_records _ c.requires) (whole_records _ c.requires)).within v (omega (arith, variables-counted _ c.find_places-at.ensures));
-    }
+  few = few_records _ c.requires;
+  whole = whole_records _ c.requires;
+  counted = variables-counted _ c.find_places-at.ensures;
+  within = λ v h. (variables-section _ (few_records _ c.requires) (whole_records _ c.requires)).within v (omega (arith, variables-counted _ c.find_places-at.ensures));
+}
 
 pub returns-then-not-is_sound-4 : goal.returns-then-not-is_sound-4
 unfolding records_fault variables_at
@@ -62,13 +62,13 @@ returns-then-not-is_sound-4 c = after (sym c.header-c.ensures ∙ sound_none _ c
 pub nodes_and_constraints-c-requires : goal.nodes_and_constraints-c-requires
 unfolding variables_at
 nodes_and_constraints-c-requires c = record {
-      few = few_records _ c.requires;
-      whole = whole_records _ c.requires;
-      places = c.find_places-at.ensures;
-      variables = sym (rw (variables-counted _ c.find_places-at.ensures) at c.variables-c.ensures) ∙ sound_none _ c.is_sound-2.ensures c.if-not-is_sound-2.false;
-      slots = sym (rw (slots_counted _ c.find_places-at.ensures, slots-place _ c.find_places-at.ensures) at c.slots-c.ensures) ∙ sound_none _ c.is_sound-3.ensures c.if-not-is_sound-3.false;
-      arrays = sym (rw (arrays-place _ c.find_places-at.ensures) at c.arrays-c.ensures) ∙ sound_none _ c.is_sound-4.ensures c.if-not-is_sound-4.false;
-    }
+  few = few_records _ c.requires;
+  whole = whole_records _ c.requires;
+  places = c.find_places-at.ensures;
+  variables = sym (rw (variables-counted _ c.find_places-at.ensures) at c.variables-c.ensures) ∙ sound_none _ c.is_sound-2.ensures c.if-not-is_sound-2.false;
+  slots = sym (rw (slots_counted _ c.find_places-at.ensures, slots-place _ c.find_places-at.ensures) at c.slots-c.ensures) ∙ sound_none _ c.is_sound-3.ensures c.if-not-is_sound-3.false;
+  arrays = sym (rw (arrays-place _ c.find_places-at.ensures) at c.arrays-c.ensures) ∙ sound_none _ c.is_sound-4.ensures c.if-not-is_sound-4.false;
+}
 
 pub returns-then-not-is_sound-5 : goal.returns-then-not-is_sound-5
 unfolding records_fault variables_at

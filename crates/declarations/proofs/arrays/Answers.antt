@@ -1,6 +1,5 @@
 -- `declarations::arrays` meets its contract: the arrays passed have no fault.
 use mathlib.Core.Path.{sym, ◌∙◌}
-use Prim.Native.Nat.{◌-◌}
 use native.Mathlib.Omega.{arith}
 use Rattle.table.specs.Records.{AR}
 use Rattle.table.specs.Marks.{mark_of}

@@ -1,7 +1,7 @@
 -- `declarations::elements` meets its contract: no fault among the elements passed, so all of them are within the table.
 use mathlib.Core.Path.{◌≡◌}
 use mathlib.Core.Option.{none}
-use Prim.Native.Nat.{◌+◌, ◌-◌}
+use Prim.Native.Nat.{◌+◌}
 use native.Mathlib.Omega.{arith}
 use Rattle.table.specs.Records.{EL}
 use Rattle.answers.specs.Sections.{sort_of_kind}

@@ -1,6 +1,5 @@
 -- `declarations::slots` meets its contract: no fault among the records passed.
 use mathlib.Core.Path.{sym, ◌∙◌}
-use Prim.Native.Nat.{◌-◌}
 use native.Mathlib.Omega.{arith}
 use Rattle.answers.proofs.Faults.{unless-true, unless-false, first-zero, first_more, first-at, first_done}
 use Rattle.declarations.proofs.slots.Goals as goal

@@ -1,5 +1,4 @@
 -- `evaluation::totals_of` meets its contract, case by case.
-use mathlib.Core.Path.{refl}
 use Rattle.answers.specs.Answers.{refused, done}
 use Rattle.evaluation.specs.Results.{answer_of}
 use Rattle.evaluation.proofs.Numbers.{check-totals}

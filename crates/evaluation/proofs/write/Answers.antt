@@ -1,5 +1,4 @@
 -- `evaluation::write` meets its contract.
-use Prim.Native.Nat.{◌-◌}
 use native.Mathlib.Omega.{arith}
 use Rattle.evaluation.proofs.Copied.{copied_none, copied_more, copied-long, copied_all}
 use Rattle.evaluation.proofs.write.Goals as goal

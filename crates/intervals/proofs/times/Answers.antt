@@ -1,7 +1,7 @@
 -- `intervals::times` meets its contract.
 use lib.IntN.{◌*ℤ◌}
 use Rattle.intervals.proofs.Spans.{hull-cong}
-use Rattle.rules.specs.Bounds.{arith_interval, products, hull, only}
+use Rattle.rules.specs.Bounds.{arith_interval, products, only}
 use Rattle.numbers.proofs.Magnitudes.{op_fits, op_held, product_small}
 use mathlib.Core.Path.{◌∙◌, ap}
 use Rattle.intervals.proofs.times.Goals as goal

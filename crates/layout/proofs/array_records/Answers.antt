@@ -5,7 +5,7 @@ use Rattle.sections.proofs.Bounds.{arrays-place, array_count}
 use Rattle.answers.specs.Sections.{array_records}
 use Rattle.table.specs.Records.{record_size, record_count}
 use lib.ListN.{length}
-use Prim.Native.Nat.{◌+◌, ◌<◌, ◌-◌}
+use Prim.Native.Nat.{◌+◌, ◌<◌}
 use mathlib.Core.Path.{ap, ◌∙◌}
 use native.Mathlib.Omega.{arith}
 use Rattle.layout.proofs.Walked.{placed-none, next-within, placed-more, placed-all}

@@ -6,8 +6,6 @@ use Rattle.answers.specs.Listing.{digits}
 use Rattle.lines.proofs.Placed.{put, ensured}
 use Rattle.lines.proofs.Digits.{at_most}
 use Rattle.lines.proofs.Written.{no-digits, last-digit, next-digit}
-use borrow.Author.Rules.{rules}
-use Prim.Native.Nat.{ℕ, ◌<◌}
 use Rattle.lines.proofs.+put_digits.Goals as goal
 
 pub put_digits-last-requires : goal.put_digits-last-requires

@@ -1,5 +1,4 @@
 -- `lines::put_lines` meets its contract. The loop's invariant: the lines of the first k records stand in `text`, and `at` is behind them.
-use Prim.Native.Nat.{◌-◌}
 use native.Mathlib.Omega.{arith}
 use mathlib.Core.Path.{◌≡◌, refl, ap, ◌∙◌}
 use lib.ListN.{length}

@@ -1,6 +1,5 @@
 -- `nodes::enter_arrays` meets its contract: the facts of the arrays passed stand at their places.
 use mathlib.Core.Path.{◌≡◌, sym, ◌∙◌, ap}
-use Prim.Native.Nat.{◌-◌}
 use native.Mathlib.Omega.{arith}
 use Rattle.table.specs.Records.{AR, kind_at}
 use Rattle.answers.proofs.RunEnds.{marked-within}

@@ -1,6 +1,6 @@
 -- `nodes::enter_slots` meets its contract: the facts of the slots passed stand at their places.
 use mathlib.Core.Path.{◌≡◌, ap}
-use Prim.Native.Nat.{ℕ, ◌+◌, ◌-◌}
+use Prim.Native.Nat.{ℕ, ◌+◌}
 use native.Mathlib.Omega.{arith}
 use Rattle.nodes.proofs.Entered.{entered-none, entered-more}
 use lib.Pow.{pow_mono, shl_exact}

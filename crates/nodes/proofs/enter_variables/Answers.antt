@@ -1,8 +1,6 @@
 -- `nodes::enter_variables` meets its contract: the facts of the variables passed stand at their places.
 use mathlib.Core.Path.{◌≡◌}
-use Prim.Native.Nat.{◌-◌}
 use native.Mathlib.Omega.{arith}
-use Rattle.table.specs.Records.{kind_at}
 use Rattle.nodes.proofs.Entered.{entered-none, entered-more}
 use Rattle.nodes.proofs.enter_variables.Goals as goal
 

@@ -6,9 +6,8 @@ use Rattle.answers.proofs.Faults.{first-zero, first_more, first-at, first_done}
 use Rattle.nodes.proofs.NodeStep.{turn-made, turn-refused}
 use Rattle.nodes.proofs.Turns.{known_more, limits-more, x-look-ok, y-look-ok, x-coded, y-coded, yields-coded, binds_coded, small-tag, row_small}
 use mathlib.Core.Path.{◌≡◌, sym, ◌∙◌, ap}
-use Prim.Native.Nat.{ℕ, ◌+◌, ◌-◌}
+use Prim.Native.Nat.{ℕ, ◌+◌}
 use native.Mathlib.Omega.{arith}
-use Rattle.answers.specs.Check.{node_fault}
 use Rattle.operands.specs.Facts.{bases_of}
 use Rattle.nodes.proofs.nodes.Goals as goal
 

@@ -30,26 +30,29 @@ enter_variables-requires c = record { count_bound = omega (arith, variables-coun
 
 pub enter_arrays-requires : goal.enter_arrays-requires
 unfolding blank
-enter_arrays-requires c = record { facts_len = ap length c.enter_variables.ensures ∙ length-entered 83 _ _ _ ∙ ap length c.enter_slots.ensures ∙ length-entered 3 _ _ _ ∙ length-blank; arrays = record {
+enter_arrays-requires c = record {
+  facts_len = ap length c.enter_variables.ensures ∙ length-entered 83 _ _ _ ∙ ap length c.enter_slots.ensures ∙ length-entered 3 _ _ _ ∙ length-blank;
+  arrays = record {
     whole = c.requires.whole;
     few_records = c.requires.few;
     first = arrays-place _ c.requires.places;
     counted = array_count _ c.requires.places;
     few = omega (arith, array_count _ c.requires.places, arrays-few _ c.requires);
-  } }
+  };
+}
 
 pub nodes-c-requires : goal.nodes-c-requires
 nodes-c-requires c = record {
-      section = rw (nodes-counted _ c.requires.places, nodes-place _ c.requires.places) (nodes-section _ c.requires.few c.requires.whole);
-      first = nodes-place _ c.requires.places;
-      counted = nodes-counted _ c.requires.places;
-      limited = limits-start _ (slots_counted _ c.requires.places) (variables-counted _ c.requires.places) (array_count _ c.requires.places);
-      known =
-          rw
-          (start_is _ (slots_counted _ c.requires.places) (variables-counted _ c.requires.places) (array_count _ c.requires.places)
-          c.enter_slots.ensures c.enter_variables.ensures c.enter_arrays.ensures)
-          (start_known _ c.requires);
-    }
+  section = rw (nodes-counted _ c.requires.places, nodes-place _ c.requires.places) (nodes-section _ c.requires.few c.requires.whole);
+  first = nodes-place _ c.requires.places;
+  counted = nodes-counted _ c.requires.places;
+  limited = limits-start _ (slots_counted _ c.requires.places) (variables-counted _ c.requires.places) (array_count _ c.requires.places);
+  known =
+      rw
+      (start_is _ (slots_counted _ c.requires.places) (variables-counted _ c.requires.places) (array_count _ c.requires.places)
+      c.enter_slots.ensures c.enter_variables.ensures c.enter_arrays.ensures)
+      (start_known _ c.requires);
+}
 
 pub returns-then-not-is_sound : goal.returns-then-not-is_sound
 unfolding body_fault
@@ -60,11 +63,11 @@ overflow_sub-at c = omega (arith, constraints-place _ c.requires.places, rest-pl
 
 pub constraints-requires : goal.constraints-requires
 constraints-requires c = record {
-      section = rw (constraints-counted _ c.requires.places, constraints-place _ c.requires.places) (constraints-section _ c.requires.few c.requires.whole);
-      counted = nodes-counted _ c.requires.places;
-      slots_counted = slots_counted _ c.requires.places;
-      known = c.nodes-c.ensures.all_known (sound_none _ c.is_sound.ensures c.if-not-is_sound.false);
-    }
+  section = rw (constraints-counted _ c.requires.places, constraints-place _ c.requires.places) (constraints-section _ c.requires.few c.requires.whole);
+  counted = nodes-counted _ c.requires.places;
+  slots_counted = slots_counted _ c.requires.places;
+  known = c.nodes-c.ensures.all_known (sound_none _ c.is_sound.ensures c.if-not-is_sound.false);
+}
 
 pub returns : goal.returns
 unfolding body_fault

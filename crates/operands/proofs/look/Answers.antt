@@ -36,24 +36,24 @@ returns-then-limits-code c = rw (le-ltb c.args.x (get_or c.args.limits.now c.arg
 
 pub overflow_add-fact : goal.overflow_add-fact
 overflow_add-fact c = omega (
-      arith,
-      place_is c.args.bases.now c.args.code c.args.x (index_is (goal.at.overflow_add-fact c).Joined-code-eq-ANY_NUMBER),
-      c.requires.x_bound c.if-limits-code.false,
-    )
+  arith,
+  place_is c.args.bases.now c.args.code c.args.x (index_is (goal.at.overflow_add-fact c).Joined-code-eq-ANY_NUMBER),
+  c.requires.x_bound c.if-limits-code.false,
+)
 
 pub offset_bounds-facts-bases : goal.offset_bounds-facts-bases
 offset_bounds-facts-bases c = omega (
-      arith,
-      place_is c.args.bases.now c.args.code c.args.x (index_is (goal.at.offset_bounds-facts-bases c).Joined-code-eq-ANY_NUMBER),
-      c.requires.x_bound c.if-limits-code.false,
-    )
+  arith,
+  place_is c.args.bases.now c.args.code c.args.x (index_is (goal.at.offset_bounds-facts-bases c).Joined-code-eq-ANY_NUMBER),
+  c.requires.x_bound c.if-limits-code.false,
+)
 
 pub bounds-facts-bases : goal.bounds-facts-bases
 bounds-facts-bases c = omega (
-      arith,
-      place_is c.args.bases.now c.args.code c.args.x (index_is (goal.at.bounds-facts-bases c).Joined-code-eq-ANY_NUMBER),
-      c.requires.x_bound c.if-limits-code.false,
-    )
+  arith,
+  place_is c.args.bases.now c.args.code c.args.x (index_is (goal.at.bounds-facts-bases c).Joined-code-eq-ANY_NUMBER),
+  c.requires.x_bound c.if-limits-code.false,
+)
 
 pub returns-then-fact-code : goal.returns-then-fact-code
 returns-then-fact-code c = found _ _ _ _ _

@@ -1,7 +1,7 @@
 -- `sections::array_run` meets its contract: the walk goes from array to array until it stops.
 use mathlib.Core.Path.{◌≡◌, sym, ◌∙◌, ap}
 use mathlib.Core.List.{List}
-use Prim.Native.Nat.{ℕ, ◌+◌, ◌*◌, ◌-◌}
+use Prim.Native.Nat.{ℕ, ◌+◌, ◌*◌}
 use native.Mathlib.Omega.{arith}
 use lib.IntN.{nat_abs}
 use Rattle.table.specs.Records.{AR, record_size, record_count, word_at, signed, y_at}

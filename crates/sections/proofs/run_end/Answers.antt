@@ -1,6 +1,5 @@
 -- `sections::run_end` meets its contract: the walk stands in the run until it stops.
 use mathlib.Core.Path.{sym, ◌∙◌}
-use Prim.Native.Nat.{◌-◌}
 use native.Mathlib.Omega.{arith}
 use Rattle.answers.proofs.RunEnds.{unmarked_beyond}
 use Rattle.sections.proofs.Walks.{run_starts, run_goes_on, run_ends}

@@ -1,7 +1,6 @@
 -- `steps::constraint_steps` meets its contract.
 use mathlib.Core.Path.{ap, ◌∙◌}
 use lib.ListN.{get_or}
-use Prim.Native.Nat.{◌-◌, ◌≤◌}
 use native.Mathlib.Omega.{arith}
 use Rattle.answers.specs.Sections.{constraint_count}
 use Rattle.answers.specs.Answers as Answers
@@ -35,10 +34,10 @@ overflow_add-total c = omega (arith, c.kept.ensures, c.requires.kept.small c.nam
 pub loop-i-preserved : goal.loop-i-preserved
 unfolding constraint_count
 loop-i-preserved c = let l = laid c.args.s.now (checked c.args.s.now c.requires.s_value) c.requires.at_value in (
-      total-more c.args.s.now c.requires.s_value c.requires.kept c.loop-i.i (omega (arith, l, l.order)) (omega (arith, l)) c.loop-i.invariant.0
-          (c.kept.ensures ∙ ap (λ k. get_or c.args.costs.now k 0) c.name_x.ensures) c.capped-total.ensures,
-      omega arith,
-    )
+  total-more c.args.s.now c.requires.s_value c.requires.kept c.loop-i.i (omega (arith, l, l.order)) (omega (arith, l)) c.loop-i.invariant.0
+      (c.kept.ensures ∙ ap (λ k. get_or c.args.costs.now k 0) c.name_x.ensures) c.capped-total.ensures,
+  omega arith,
+)
 
 pub returns : goal.returns
 unfolding constraint_count

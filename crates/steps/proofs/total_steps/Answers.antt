@@ -1,6 +1,5 @@
 -- `steps::total_steps` meets its contract.
 use mathlib.Core.Path.{◌≡◌, refl}
-use Prim.Native.Nat.{◌-◌}
 use native.Mathlib.Omega.{arith}
 use Rattle.table.specs.Kinds.{kinds}
 use Rattle.answers.specs.Sections.{node_count}

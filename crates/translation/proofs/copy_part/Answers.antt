@@ -1,6 +1,5 @@
 -- `translation::copy_part` meets its contract.
 use mathlib.Core.Path.{refl, ap, ◌∙◌}
-use Prim.Native.Nat.{◌-◌}
 use native.Mathlib.Omega.{arith}
 use lib.ListN.{length-set}
 use Rattle.translation.proofs.Copies.{up_to, copied_none, copied_more}

@@ -3,7 +3,6 @@ use Rattle.translator.proofs.Cells.{written, rows_none, rows_more}
 use Rattle.table.specs.Records.{record_size}
 use lib.Seq.{sets}
 use native.Mathlib.Omega.{arith}
-use Prim.Native.Nat.{◌-◌}
 use mathlib.Core.Path.{refl, ap, ◌∙◌}
 use Rattle.translator.proofs.rows.put_rows.Goals as goal
 

@@ -1,6 +1,6 @@
 -- `writing::new_constraints::put_constraints` meets its contract.
 use mathlib.Core.Path.{refl, ap, ◌∙◌}
-use Prim.Native.Nat.{◌+◌, ◌-◌}
+use Prim.Native.Nat.{◌+◌}
 use native.Mathlib.Omega.{arith}
 use lib.IntN.{nat_abs}
 use Rattle.table.specs.Records.{record_size, record_count, x_at}
