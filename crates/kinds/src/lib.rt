@@ -115,7 +115,7 @@ const KINDS: [u8; 124] = [
     BOOLEAN_NODE,
     UNUSED,
     INTEGER,
-    NONE, // 14: bool_to_int
+    NONE, // 14: boolToInt
     INTEGER_ARRAY,
     INTEGER_NODE,
     INTEGER,

@@ -96,7 +96,7 @@ integers =
     ∷ (arith plus beyond undefined, false)
     ∷ (arith plus undefined beyond, false)
     ∷ (divide quot large (number (pos 0)), true)
-    -- under bool_to_int, as an index, as an element that is looked up; not as one that is not
+    -- under boolToInt, as an index, as an element that is looked up; not as one that is not
     ∷ (bool_to_int meets, false)
     ∷ (bool_to_int (truth true), true)
     ∷ (lookup 0 beyond, false)

@@ -132,7 +132,7 @@ calculations-hold strict = refl
 calculations-hold kleene = refl
 calculations-hold relational = refl
 
--- ---- not and bool_to_int of T, F, U
+-- ---- not and boolToInt of T, F, U
 
 record Unary : Type 0 where
   reading : Reading

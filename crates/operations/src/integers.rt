@@ -147,7 +147,7 @@ pub fn negate(a: Walked) -> Walked
     }
 }
 
-// bool_to_int: true is 1, false 0.
+// boolToInt: true is 1, false 0.
 pub fn number(a: Walked) -> Walked
     ensures { result ≡ numbered a }
 {

@@ -15,7 +15,7 @@ use Rattle.rules.proofs.Claims.{MeansI, MeansB}
 use Rattle.rules.proofs.Companions.{Vᵗ, Pᵗ, Dᵗ, Nᵗ}
 use Rattle.rules.proofs.Operands.{corrected, division-some}
 
--- "Vb + bool_to_int(Vb = 0)"
+-- "Vb + boolToInt(Vb = 0)"
 abbrev pub corrected_v : IExp ⊥ → IExp ⊥
 corrected_v b = arith plus b (bool_to_int (compare equal b (constant (pos 0))))
 

@@ -56,7 +56,7 @@ module _ {A B C : Type 0} (f : A → B → C) where
 
 -- ---- the corrected divisor
 
--- "Vb + bool_to_int(Vb = 0)"
+-- "Vb + boolToInt(Vb = 0)"
 unfoldable pub corrected : ℤ → ℤ
 corrected y = y +ℤ number (eq_z y (pos 0))
 

@@ -20,7 +20,7 @@ use Rattle.rules.proofs.Intervals.{within-only, arith-within}
 use Rattle.rules.proofs.Operands.{Agrees, defined-map, agrees-map, defined-both, agrees-both, corrected, corrected-≢0, divide-within, defined-divide, agrees-divide}
 use Rattle.rules.proofs.Formulas.{constant-has, arith-has, negate-has, divide-has, bool_to_int-has, compare-has, corrected-has, connect-has, not-is_true, V-has, D-has, P-has, P-or-N-has}
 
--- "bool_to_int 0..1"
+-- "boolToInt 0..1"
 number-within : (b : Bool) → Within (pos 0 to pos 1) (number b)
 unfolding number
 number-within true = record { above = le_z_yes tt; below = le_z_yes tt }
@@ -90,7 +90,7 @@ module _ {ρ ρ' : Reading} {Γ : Declarations} {α : Assignment} {σ : Setting}
     V_agrees = agrees-map neg_ℤ (value_i ρ Γ α a σ) m.V_agrees;
   }
 
-  -- "div, mod: V = Va op (Vb + bool_to_int(Vb = 0)), D = (Da ∧ Db) ∧ (Vb ≠ 0)."
+  -- "div, mod: V = Va op (Vb + boolToInt(Vb = 0)), D = (Da ∧ Db) ∧ (Vb ≠ 0)."
   pub divide-means : (op : Division) {a b : IExp ⊥} → MeansI ρ ρ' Γ α σ a → MeansI ρ ρ' Γ α σ b → MeansI ρ ρ' Γ α σ (divide op a b)
   unfolding value_i Vᵗ Dᵗ divide_v divide_d interval logic comparison
   divide-means op {a} {b} m n = record {
@@ -103,7 +103,7 @@ module _ {ρ ρ' : Reading} {Γ : Declarations} {α : Assignment} {σ : Setting}
     V_agrees = agrees-divide op (value_i ρ Γ α a σ) (value_i ρ Γ α b σ) m.V_agrees n.V_agrees;
   }
 
-  -- "bool_to_int: V = bool_to_int(Pa), D = Pa ∨ Na."
+  -- "boolToInt: V = boolToInt(Pa), D = Pa ∨ Na."
   pub bool_to_int-means : {a : BExp ⊥} → MeansB ρ ρ' Γ α σ a → MeansI ρ ρ' Γ α σ (bool_to_int a)
   unfolding value_i Vᵗ Dᵗ interval
   bool_to_int-means {a} m = record {

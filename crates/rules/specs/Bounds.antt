@@ -78,7 +78,7 @@ module _ (Γ : Declarations) where
   elements_interval [] = only (pos 0)
   elements_interval (e ∷ es) = hull_with (element_interval e) es
 
-  -- "constant x..x; .. negate ..; bool_to_int 0..1; .. sum the body's ends times the slot's count"
+  -- "constant x..x; .. negate ..; boolToInt 0..1; .. sum the body's ends times the slot's count"
   unfoldable pub interval : IExp ⊥ → Interval
   interval (constant z) = only z
   interval (variable v) = variable_interval v

@@ -13,7 +13,7 @@ abbrev pub ◌or◌ : {R : Type 0} → BExp R → BExp R → BExp R
 a or b = connect disj a b
 
 module _ {R : Type 0} where
-  -- "div, mod: V = Va op (Vb + bool_to_int(Vb = 0)), D = (Da ∧ Db) ∧ (Vb ≠ 0)."
+  -- "div, mod: V = Va op (Vb + boolToInt(Vb = 0)), D = (Da ∧ Db) ∧ (Vb ≠ 0)."
   unfoldable pub divide_v : Division → (Va Vb : IExp R) → IExp R
   divide_v op Va Vb = divide op Va (arith plus Vb (bool_to_int (compare equal Vb (constant (pos 0)))))
 

@@ -40,7 +40,7 @@ module _ {R : Type 0} (ρ : Reading) (Γ : Declarations) (Vₙ : ℕ → IExp R)
   -- "Integer: V = h, D = g. Boolean: P = g ∧ h, N = g ∧ ¬h; relational N = ¬P."
   rule (lookup_row A i) = numeric (lookup A (index A i)) (guard A i)
   rule (lookup_b_row A i) = logical (guard A i and lookup_b A (index A i)) (refuted ρ (guard A i) (lookup_b A (index A i)))
-  -- "bool_to_int: V = bool_to_int(Pa), D = Pa ∨ Na. Sum: V = sum of Va, D = forall of Da."
+  -- "boolToInt: V = boolToInt(Pa), D = Pa ∨ Na. Sum: V = sum of Va, D = forall of Da."
   rule (bool_to_int_row a) = numeric (bool_to_int (Pₙ a)) (Pₙ a or Nₙ a)
   rule (sum_row s a) = numeric (sum s (Vₙ a)) (quantify forall s (Dₙ a))
   -- "Comparison: P = (Da ∧ Db) ∧ (Va op Vb), N = (Da ∧ Db) ∧ ¬(Va op Vb); relational N = ¬P."

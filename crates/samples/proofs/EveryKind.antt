@@ -85,7 +85,7 @@ negations =
     (undefined ++ (number 7 ∷ node 11 3 0 ∷ at ND 1 (negsuc 6) (pos 0) ∷ node 11 2 0 ∷ node 25 4 5 ∷ node 25 4 3 ∷ node 25 6 0 ∷ node 25 5 3 ∷ []))
     (7 ∷ 8 ∷ 9 ∷ 10 ∷ []) [] (1 ∷ 0 ∷ 2 ∷ 0 ∷ []) (1 ∷ 0 ∷ 2 ∷ 0 ∷ []) (1 ∷ 0 ∷ 0 ∷ 0 ∷ []) 17
 
--- Kinds 2 and 14: false, true; bool_to_int of true = 1, of false = 0, of 1 div 0 = 1 is 0
+-- Kinds 2 and 14: false, true; boolToInt of true = 1, of false = 0, of 1 div 0 = 1 is 0
 numbers-of-truths : Sample
 numbers-of-truths =
     sample []

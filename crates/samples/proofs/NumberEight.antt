@@ -68,7 +68,7 @@ meetings =
     ∷ at_value (pos 2000000001) (meeting (node 3 0 0 ∷ node 25 3 1 ∷ []) 4 8)
     ∷ at_value (pos 2000000000) (meeting (node 3 0 0 ∷ node 25 3 1 ∷ []) 4 0)
     ∷ meeting (node 25 1 1 ∷ []) 3 0
-    -- under not and bool_to_int
+    -- under not and boolToInt
     ∷ meeting (node 24 2 0 ∷ []) 3 8
     ∷ meeting (node 14 2 0 ∷ node 25 3 1 ∷ []) 4 8
     -- as an index of each array

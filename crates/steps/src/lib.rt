@@ -46,7 +46,7 @@ const SHAPES: [u8; 31] = [
     OF_X, // 11: negate
     OF_BOTH, // 12: min
     OF_BOTH, // 13: max
-    OF_X, // 14: bool_to_int
+    OF_X, // 14: boolToInt
     OF_Y, // 15: lookup
     OF_Y, // 16: Boolean lookup
     OF_RANGE, // 17: sum

@@ -85,7 +85,7 @@ abbrev b : Field
 b = node_number boolean
 
 -- "Integer: 1 constant x; 3 variable x; 5 slot x; 6 add, 7 subtract, 8 multiply, 9 div, 10 mod, 12 min, 13 max of nodes x, y; 11 negate x;
--- 14 bool_to_int x; 15 array x at index node y; 17 sum over slot x of body y."
+-- 14 boolToInt x; 15 array x at index node y; 17 sum over slot x of body y."
 taken : List Taken
 taken =
     takes 1 any_number unused integer

@@ -12,9 +12,9 @@ rule_rows =
     ∷ row 0 6 0 ∷ row 24 16 0  -- Boolean constant or variable: P itself, N = ¬P.
     ∷ row 2 0 0 ∷ row 24 16 0  -- A kind that does not exist reads as false.
     ∷ row 0 2 4 ∷ row 20 3 5  -- Arithmetic: V = Va op Vb, D = Da ∧ Db.
-    ∷ row 1 0 0 ∷ row 25 4 16 ∷ row 14 17 0 ∷ row 6 4 18 ∷ row 0 2 19 ∷ row 20 3 5 ∷ row 1 0 0 ∷ row 26 4 22 ∷ row 20 21 23  -- div, mod: V = Va op (Vb + bool_to_int(Vb = 0)), D = (Da ∧ Db) ∧ (Vb ≠ 0).
+    ∷ row 1 0 0 ∷ row 25 4 16 ∷ row 14 17 0 ∷ row 6 4 18 ∷ row 0 2 19 ∷ row 20 3 5 ∷ row 1 0 0 ∷ row 26 4 22 ∷ row 20 21 23  -- div, mod: V = Va op (Vb + boolToInt(Vb = 0)), D = (Da ∧ Db) ∧ (Vb ≠ 0).
     ∷ row 11 2 0  -- Negate: V = −Va, D = Da.
-    ∷ row 14 2 0 ∷ row 21 2 3  -- bool_to_int: V = bool_to_int(Pa), D = Pa ∨ Na.
+    ∷ row 14 2 0 ∷ row 21 2 3  -- boolToInt: V = boolToInt(Pa), D = Pa ∨ Na.
     ∷ row 1 7 0 ∷ row 1 8 0 ∷ row 12 17 4 ∷ row 13 16 18 ∷ row 0 6 19 ∷ row 1 7 0 ∷ row 27 21 4 ∷ row 20 5 22 ∷ row 1 8 0 ∷ row 27 4 24 ∷ row 20 23 25  -- Integer lookup: V = h, D = g, with h = A[max(l, min(u, Vi))], g = (Di ∧ (l ≤ Vi)) ∧ (Vi ≤ u).
     ∷ row 1 7 0 ∷ row 27 16 4 ∷ row 20 5 17 ∷ row 1 8 0 ∷ row 27 4 19 ∷ row 20 18 20 ∷ row 1 7 0 ∷ row 1 8 0 ∷ row 12 23 4 ∷ row 13 22 24 ∷ row 0 6 25 ∷ row 20 21 26 ∷ row 1 7 0 ∷ row 27 28 4 ∷ row 20 5 29 ∷ row 1 8 0 ∷ row 27 4 31 ∷ row 20 30 32 ∷ row 1 7 0 ∷ row 1 8 0 ∷ row 12 35 4 ∷ row 13 34 36 ∷ row 0 6 37 ∷ row 24 38 0 ∷ row 20 33 39  -- Boolean lookup, strict and Kleene: P = g ∧ h, N = g ∧ ¬h.
     ∷ row 1 7 0 ∷ row 27 16 4 ∷ row 20 5 17 ∷ row 1 8 0 ∷ row 27 4 19 ∷ row 20 18 20 ∷ row 1 7 0 ∷ row 1 8 0 ∷ row 12 23 4 ∷ row 13 22 24 ∷ row 0 6 25 ∷ row 20 21 26 ∷ row 24 27 0  -- Boolean lookup, relational: P = g ∧ h, N = ¬P.
@@ -51,7 +51,7 @@ plans_with lookup conj disj implies comparison exists forall =
     ∷ plan 8 9 20 24 ∷ plan 8 9 20 24  -- div, mod
     ∷ plan 17 1 16 3  -- negate
     ∷ plan 6 2 16 17 ∷ plan 6 2 16 17  -- min, max
-    ∷ plan 18 2 16 17  -- bool_to_int
+    ∷ plan 18 2 16 17  -- boolToInt
     ∷ plan 20 11 20 26  -- lookup
     ∷ lookup
     ∷ plan 69 2 16 17  -- sum
