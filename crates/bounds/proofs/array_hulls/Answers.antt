@@ -1,4 +1,5 @@
 -- `bounds::array_hulls` meets its contract.
+use borrow.Author.Rules.{rules}
 use mir.Syntax.{w64}
 use Rattle.bounds.proofs.Declared.{array-elements, behind-inside, hulls_of}
 use mir.Facts.{to_z-of_z}
@@ -52,7 +53,7 @@ pub overflow_add-a : goal.overflow_add-a
 overflow_add-a c = omega (arith, few (goal.at.overflow_add-a c).In-loop-a)
 
 pub loop-a-preserved : goal.loop-a-preserved
-loop-a-preserved c = let d = (goal.at.loop-a-preserved c).In-loop-a in let e = c.elements-all.ensures ∙ array-elements c.args.s.now c.loop-a.a (counted d) (c.array_records-places.ensures.held c.loop-a.a) in (filled_more _ _ _ c.loop-a.invariant.0 (omega (arith, few d)) (to_z-of_z {w = w64} (record { sfits = c.struct_told-1.given.0.1 }) ∙ ap (λ (i : Interval). i.low) e), filled_more _ _ _ c.loop-a.invariant.1 (omega (arith, few d)) (to_z-of_z {w = w64} (record { sfits = c.struct_told-in-loop-a-1.given.1.0.1 }) ∙ ap (λ (i : Interval). i.high) e), omega arith)
+loop-a-preserved c = let d = (goal.at.loop-a-preserved c).In-loop-a in let e = c.elements-all.ensures ∙ array-elements c.args.s.now c.loop-a.a (counted d) (c.array_records-places.ensures.held c.loop-a.a) in (filled_more _ _ _ c.loop-a.invariant.0 (omega (arith, few d)) (to_z-of_z {w = w64} (search rules) ∙ ap (λ (i : Interval). i.low) e), filled_more _ _ _ c.loop-a.invariant.1 (omega (arith, few d)) (to_z-of_z {w = w64} (search rules) ∙ ap (λ (i : Interval). i.high) e), omega arith)
 
 pub shape_of-lows : goal.shape_of-lows
 shape_of-lows c = c.loop-a.invariant.0.sized ∙ sym (ap length c.requires.lows_value)

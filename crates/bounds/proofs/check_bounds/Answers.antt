@@ -1,4 +1,5 @@
 -- `bounds::check_bounds` meets its contract.
+use borrow.Author.Rules.{rules}
 use mir.Syntax.{w64}
 use Rattle.layout.proofs.Order.{laid}
 use Rattle.answers.specs.Check.{refuse}
@@ -64,7 +65,7 @@ overflow_add-n c = let l = laid c.args.s.now c.requires.passed c.requires.at_val
 
 pub loop-n-preserved : goal.loop-n-preserved
 unfolding node_count
-loop-n-preserved c = let l = laid c.args.s.now c.requires.passed c.requires.at_value in (passing_more c.args.s.now c.loop-n.invariant.0 (omega (arith, l)) (omega (arith, l, l.order)) (to_z-of_z {w = w64} (record { sfits = c.struct_told-1.given.0.1 }) ∙ ap (λ (i : Interval). i.low) c.node_ends-ends.ensures) (to_z-of_z {w = w64} (record { sfits = c.struct_told-in-loop-n-1.given.1.0.1 }) ∙ ap (λ (i : Interval). i.high) c.node_ends-ends.ensures) (sym (ap (λ (i : Interval). within_limit i.low && within_limit i.high) c.node_ends-ends.ensures) ∙ sym c.within_limit.ensures ∙ c.if-not-within_limit.false), omega arith)
+loop-n-preserved c = let l = laid c.args.s.now c.requires.passed c.requires.at_value in (passing_more c.args.s.now c.loop-n.invariant.0 (omega (arith, l)) (omega (arith, l, l.order)) (to_z-of_z {w = w64} (search rules) ∙ ap (λ (i : Interval). i.low) c.node_ends-ends.ensures) (to_z-of_z {w = w64} (search rules) ∙ ap (λ (i : Interval). i.high) c.node_ends-ends.ensures) (sym (ap (λ (i : Interval). within_limit i.low && within_limit i.high) c.node_ends-ends.ensures) ∙ sym c.within_limit.ensures ∙ c.if-not-within_limit.false), omega arith)
 
 pub returns : goal.returns
 unfolding node_count

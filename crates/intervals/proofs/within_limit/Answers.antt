@@ -1,4 +1,5 @@
 -- `intervals::within_limit` meets its contract.
+use borrow.Author.Rules.{rules}
 use mir.Syntax.{w64}
 use Rattle.intervals.proofs.Spans.{both_yes, first-no}
 use Rattle.numbers.specs.Whole.{within_limit}
@@ -7,7 +8,7 @@ use mathlib.Core.Path.{◌∙◌, ap}
 use Rattle.intervals.proofs.within_limit.Goals as goal
 
 pub returns-then-within : goal.returns-then-within
-returns-then-within c = both_yes (c.within.ensures ∙ ap within_limit (to_z-of_z {w = w64} (record { sfits = c.struct_told-1.given.0.1 }))) c.if-within.true (c.within-then-within.ensures ∙ ap within_limit (to_z-of_z {w = w64} (record { sfits = c.struct_told-then-within-1.given.1.0.1 })))
+returns-then-within c = both_yes (c.within.ensures ∙ ap within_limit (to_z-of_z {w = w64} (search rules))) c.if-within.true (c.within-then-within.ensures ∙ ap within_limit (to_z-of_z {w = w64} (search rules)))
 
 pub returns-else-within : goal.returns-else-within
-returns-else-within c = first-no _ (c.within.ensures ∙ ap within_limit (to_z-of_z {w = w64} (record { sfits = c.struct_told-1.given.0.1 }))) c.if-within.false
+returns-else-within c = first-no _ (c.within.ensures ∙ ap within_limit (to_z-of_z {w = w64} (search rules))) c.if-within.false
