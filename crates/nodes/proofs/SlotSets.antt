@@ -40,19 +40,19 @@ agree f g e s t hs ht =
 
 -- the set of one slot, and all but one
 pub has_one : (s t : ℕ) → s < 16 → t < 16 → has t (2 ^ s) ≡ eqb t s
-unfolding has upto beq
+unfolding has upto
 has_one = agree (λ s t. has t (2 ^ s)) (λ s t. eqb t s) refl
 
 pub has-others : (s t : ℕ) → s < 16 → t < 16 → has t (4_294_967_295 - 2 ^ s) ≡ not (eqb t s)
-unfolding has upto beq
+unfolding has upto
 has-others = agree (λ s t. has t (4_294_967_295 - 2 ^ s)) (λ s t. not (eqb t s)) refl
 
 pub has_all : (t : ℕ) → t < 16 → has t 4_294_967_295 ≡ true
-unfolding has upto beq
+unfolding has upto
 has_all t h = agree (λ s t. has t 4_294_967_295) (λ s t. true) refl 0 t (omega arith) h
 
 pub has-none : (t : ℕ) → t < 16 → has t 0 ≡ false
-unfolding has upto beq
+unfolding has upto
 has-none t h = agree (λ s t. has t 0) (λ s t. false) refl 0 t (omega arith) h
 
 -- ---- both sets, and what they share

@@ -1,6 +1,6 @@
 -- `operations::integers::negate` meets its contract, by its operand's case.
 use mathlib.Core.Path.{◌≡◌, refl, ap, ◌∙◌}
-use mathlib.Core.Option.{none, some, map}
+use mathlib.Core.Option.{none, some}
 use lib.IntN.{ℤ, pos, neg_ℤ, ◌-ℤ◌, +ℤ_idl}
 use mir.Syntax.{w32, w64}
 use mir.Val.{SFits, to_z, of_z}
@@ -15,11 +15,11 @@ use Rattle.operations.proofs.Pairs.{missing}
 use Rattle.operations.proofs.integers.negate.Goals as goal
 
 of-integer : (a : Walked) (z : ℤ) {x : ℤ} → SFits w32 z → x ≡ to_z w64 (of_z w64 (pos 0 -ℤ through z)) → integer_of a.value ≡ some z → limited_to a.within (some x) ≡ negated a
-unfolding negated map
+unfolding negated
 of-integer a z f e h = rw (e, h, arrives z f, to_z-of_z (negation-fits z f), +ℤ_idl (neg_ℤ z))
 
 of-missing : (a : Walked) → integer_of a.value ≡ none → of_walk a.within Undefined ≡ negated a
-unfolding negated map
+unfolding negated
 of-missing a h = rw h (missing a.within)
 
 pub overflow_cast-x : goal.overflow_cast-x

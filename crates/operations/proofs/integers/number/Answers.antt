@@ -1,7 +1,7 @@
 -- `operations::integers::number` meets its contract, by its operand's case.
 use mathlib.Core.Path.{◌≡◌, ap, ◌∙◌}
 use mathlib.Core.Bool.{Bool, true, false}
-use mathlib.Core.Option.{none, some, map}
+use mathlib.Core.Option.{none, some}
 use lib.IntN.{ℤ, pos}
 use Rattle.language.specs.Meaning as meaning
 use Rattle.operations.specs.declared.values.Value.TheVariants.{Undefined}
@@ -12,7 +12,7 @@ use Rattle.operations.proofs.Pairs.{missing}
 use Rattle.operations.proofs.integers.number.Goals as goal
 
 of-truth : (a : Walked) {b : Bool} (z : ℤ) → truth_of a.value ≡ some b → meaning.number b ≡ z → limited_to a.within (some z) ≡ numbered a
-unfolding numbered map
+unfolding numbered
 of-truth a z h e = rw (h, e)
 
 of_one : (b : Bool) → b ≡ true → meaning.number b ≡ pos 1
@@ -24,7 +24,7 @@ unfolding meaning.number
 of_zero b e = rw e
 
 of-missing : (a : Walked) → truth_of a.value ≡ none → of_walk a.within Undefined ≡ numbered a
-unfolding numbered map
+unfolding numbered
 of-missing a h = rw h (missing a.within)
 
 pub returns-in-Integer : goal.returns-in-Integer

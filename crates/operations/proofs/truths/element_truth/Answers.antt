@@ -23,11 +23,10 @@ use Rattle.operations.proofs.truths.element_truth.Goals as goal
 
 module _ (ρ : readings.Reading) (within : Bool) {o : Option ℤ} where
   found : (z : ℤ) → SFits w32 z → o ≡ some z → of_walk within (Truth (eqb (of_z w32 z) 1)) ≡ truth_to within (atomic ρ (map is_one o))
-  unfolding map is_one truth_to
+  unfolding is_one truth_to
   found z f e = rw (e, atomic-some ρ (is_one z), eq_bits z (pos 1) f (record { sfits = omega arith }))
 
   not_found : {l : ℕ} → o ≡ none → l ≡ level_of (atomic ρ none) → truth_to within (levelled l) ≡ truth_to within (atomic ρ (map is_one o))
-  unfolding map
   not_found e h = rw e (ap (truth_to within) (ap levelled h ∙ levelled-level_of (atomic ρ none)))
 
 pub returns-in-Integer : goal.returns-in-Integer
