@@ -26,14 +26,39 @@ build_failed() { # COMMAND..
     exit 2
 }
 
-# The time that is said here is the sum of the crates' times as rt prints them; README.md has it too.
+# Puts the archive that rt wrote in its place, whole at every moment.
+put_archive() {
+    mkdir -p "${archive%/*}" && cp "$root/crates/barfigol_c/out/libbarfigol_c.a" "$archive.new" && mv -f "$archive.new" "$archive" && touch "$archive"
+}
+
+# The time that is said here is that of a first build on four processors; README.md has it too.
 build_archive() {
     need_rt && need cc gcc libc6-dev || exit 2
-    crates=$(crates_of barfigol)
+    crates=$(crates_of barfigol_c)
     say "proving and building the library: $crates crates, about 5 minutes the first time"
-    cd "$root" && with_progress "$crates" 0 rt staticlib barfigol || build_failed rt staticlib barfigol
-    touch "$archive"
+    cd "$root/crates/barfigol_c" && with_progress "$crates" 0 rt lib && put_archive || build_failed rt lib
 }
+
+# Whether no library of the repository was built yet in this checkout.
+nothing_built() {
+    for made in "$root"/crates/*/out/rlib; do
+        [ ! -e "$made" ] || return
+    done
+}
+
+# Builds the archive right behind `rt ci`, in a checkout where nothing was built before: each library that stands there is then what `rt ci` made of the
+# files as they are. `rt lib` takes none of them and would prove them all once more. So this calls the toolchain as `rt ci` does for what it runs, and the
+# exports alone are proved again, over those libraries.
+archive_over_ci() (
+    home=$(dirname "$(dirname "$(readlink -f "$(command -v rt)")")")
+    [ -x "$home/bin/rattle" ] || exit
+    set -- --crate-name barfigol_c src/lib.rt --crate-type staticlib --links barfigol_c= --jobs 1 --backend llvm --toolchain "$home/toolchain" \
+        --antt-project "$home/rattle/logic/antt-project.json" --logic-built "$home/logic_built" --extern "std=$home/rlibs/std.rlib" -L "dependency=$home/rlibs"
+    for crate in $(named_by barfigol_c); do
+        set -- "$@" --extern "$crate=$root/crates/$crate/out/rlib/$crate.rlib"
+    done
+    cd "$root/crates/barfigol_c" && mkdir -p out && "$home/bin/rattle" build "$@" -o out/libbarfigol_c.a && put_archive
+)
 
 build_program() {
     need cc gcc libc6-dev && need cargo cargo || exit 2

@@ -11,28 +11,33 @@ function tell_crate(name, what) {
     tell("crate " ++crate " of " crates ": " name " " what)
 }
 
-/^rt: [A-Za-z0-9_]+ proved \(unchanged / { tell_crate($2, "unchanged") }
-/^rt: [A-Za-z0-9_]+ proved \([0-9]+ s\)/ { tell_crate($2, "proved in " substr($4, 2) " s") }
+# `rt ci` ends each crate with a line that names it.
+/^rt: [A-Za-z0-9_]+ proved$/ { tell_crate($2, "proved") }
+/^rt: [A-Za-z0-9_]+ is kept: / { tell_crate($2, "unchanged") }
 /^rt: [A-Za-z0-9_]+ NOT PROVED/ { tell_crate($2, "NOT PROVED") }
 
-# The crate that a library is made of has no line of its own.
-/^rt: target\/staticlib\/lib[A-Za-z0-9_]+\.a has / {
+# `rt lib` names a crate that it proves, and says behind that whether it did. Of a library that is built it says nothing.
+/^rt: chose --jobs [0-9]+ for [A-Za-z0-9_]+$/ { begun = $NF }
+/^logic=proved / && begun { tell_crate(begun, "proved"); begun = "" }
+/^logic=not-proved/ && begun { tell_crate(begun, "NOT PROVED"); begun = "" }
+
+/^rt: [A-Za-z0-9_]+: trying its must-fail edits / {
     name = $2
-    sub(/.*\/lib/, "", name)
-    sub(/\.a$/, "", name)
-    tell_crate(name, "proved, its archive written")
+    sub(/:$/, "", name)
+    tell("trying edits of " name)
 }
 
+# The edits' results come together, once all were tried.
 /^rt: must-fail / {
     name = $3
-    sub(/:$/, "", name)
+    sub(/\.edit:$/, "", name)
     what = $4 == "refused," ? "refused" : $4 " " $5
     sub(/:$/, "", what)
     tell("edit " ++edit " of " edits ": " name " " what)
 }
 
-/^rt: [A-Za-z0-9_]+ ran/ { tell("program " $2 " ran") }
-/^rt: [A-Za-z0-9_]+ proved, and its run FAILED/ { tell("program " $2 " FAILED") }
+/^rt: [A-Za-z0-9_]+ ran[, ]/ { tell("program " $2 " ran" (/built by/ ? " as Rattle's own compiler builds it" : "")) }
+/^rt: FAILED: / { tell($0) }
 
 END {
     if (last) print items ? told : called ": " seconds " s so far, crate 0 of " crates

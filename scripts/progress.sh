@@ -1,9 +1,12 @@
 # Runs rt and tells on standard error how far it is. A script sets `called` to its name, `root` to the repository and `work` to a folder of its own,
 # and reads this file.
 
-# How many crates a crate of crates.txt asks for, with itself.
+# The crates that a crate of crates.txt names, and how many they are with itself.
+named_by() { # NAME
+    sed -n "s/^$1\( staticlib\)\{0,1\}://p" "$root/crates.txt"
+}
 crates_of() { # NAME
-    sed -n "s/^$1://p" "$root/crates.txt" | wc -w | awk '{ print $1 + 1 }'
+    named_by "$1" | wc -w | awk '{ print $1 + 1 }'
 }
 
 # How many crates, and how many edits that must be refused, the whole repository has.

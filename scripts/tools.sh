@@ -1,7 +1,7 @@
 # The commands that the scripts at the root need, and what is said where one is missing. A script sets `called` to its name and reads this file.
 
 # The version of the Rattle toolchain that made the proofs: the first word that `rt version` prints.
-kit=rattle-kit-5b
+kit=rattle-kit-13f
 
 # Says a text to the one who called the script.
 say() {

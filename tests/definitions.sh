@@ -6,9 +6,9 @@ page=../docs/DEFINITIONS.md
 work=$(mktemp -d) || exit 1
 trap 'rm -rf "$work"' EXIT
 
-# The specs files that specs files use: those of their own crate are named `CRATE·specs.specs.FILE`, those of others `CRATE.specs.FILE`.
+# The specs files that specs files use, of their own crate and of others. Those of the toolchain's libraries are left out.
 used() { # FILE..
-    cat "$@" | sed -nE 's/^use Rattle·([a-z]+)(·specs)?\.specs\.([A-Z][A-Za-z]*)[. ].*/\1\/specs\/\3.antt/p'
+    cat "$@" | sed -nE 's/^(pub )?use Rattle\.([a-z]+)\.specs\.([A-Z][A-Za-z]*)([. ].*)?$/\2\/specs\/\3.antt/p' | grep -v '^std/'
 }
 
 # What the page of the demands and the public contracts cite, directly or through others; and document 000's rules beside them.

@@ -1,6 +1,7 @@
 #!/bin/sh
 # The scripts ./barfigol and ./test with a toolchain that is played by small scripts: what they say before and while the proofs run, what they say
-# where rt is missing or fails, whose exit status they give, and that no line of a failed test can be taken for the verdict.
+# where rt is missing or fails or an edit could not be tried, whose exit status they give, how the archive is built behind the proofs, and that no line of
+# a failed test can be taken for the verdict.
 set -u
 cd "$(dirname "$0")/.." || exit 1
 made=$(mktemp -d) || exit 1
@@ -22,19 +23,21 @@ ended() { # WHAT WANTED FOUND
     [ "$2" -eq "$3" ] || wrong "$1: ended with $3 in place of $2"
 }
 
-# A small repository with the scripts under test: three crates, two edits, and tests that hold.
+# A small repository with the scripts under test: three crates, two edits, and tests that hold. Its crates.txt leaves the programs out.
 make_tree() {
     rm -rf "$made/tree"
-    mkdir -p "$made/tree/tests" "$made/tree/rust" "$made/tree/examples/c" "$made/tree/crates/two/must-fail"
+    mkdir -p "$made/tree/tests" "$made/tree/rust" "$made/tree/examples/c" "$made/tree/crates/two/must-fail" "$made/tree/crates/list" "$made/tree/crates/trials"
     cp -R barfigol test scripts "$made/tree/"
     cp examples/c/p4.expected "$made/tree/examples/c/"
-    printf 'one:\ntwo: one\nbarfigol: two one\n' >"$made/tree/crates.txt"
-    for crate in one two barfigol; do
+    printf 'one:\ntwo: one\nbarfigol_c staticlib: two one\n' >"$made/tree/crates.txt"
+    for crate in one two barfigol_c; do
         mkdir -p "$made/tree/crates/$crate/src"
         : >"$made/tree/crates/$crate/src/lib.rt"
     done
     : >"$made/tree/crates/two/must-fail/a.edit"
     : >"$made/tree/crates/two/must-fail/b.edit"
+    echo listed >"$made/tree/crates/list/stdout"
+    echo listed >"$made/tree/crates/trials/stdout"
     for test in tests/*.sh; do
         printf '#!/bin/sh\nexit 0\n' >"$made/tree/$test"
         chmod +x "$made/tree/$test"
@@ -50,7 +53,7 @@ play() { # NAME, the script on standard input
 # The commands of the machine that the scripts may use, and the players.
 make_path() {
     mkdir "$made/bin"
-    for name in awk cat chmod cmp cp cut date dirname find flock grep head id ln mkdir mktemp readlink rm sed sh sleep sort tail touch tr uname wc; do
+    for name in awk cat chmod cmp cp cut date dirname find flock grep head id ln mkdir mktemp mv readlink rm sed sh sleep sort tail touch tr uname wc; do
         ln -s "$(command -v "$name")" "$made/bin/$name"
     done
     play cargo <<'END'
@@ -75,10 +78,11 @@ END
 play_rt() {
     play rt <<'END'
 #!/bin/sh
-# Prints a line, and ends where it is not told within ten seconds.
-done_with() { # LINE TOLD
+# Prints lines, and ends where what they say is not told within ten seconds. With QUICK it does not wait.
+done_with() { # LINES TOLD
     echo "some words of the prover: 7 passed, 0 failed of something else"
-    echo "rt: $1"
+    printf '%s\n' "$1"
+    [ "${QUICK:-0}" -eq 0 ] || return
     tries=50
     while [ "$tries" -gt 0 ]; do
         grep -q "$2" "$TOLD" && return
@@ -88,37 +92,52 @@ done_with() { # LINE TOLD
     echo "not told: $2"
     exit 9
 }
+proved_one() { # NAME
+    printf 'rt: chose --jobs 2 for %s\nfn %s::f: proved\nlogic=proved functions=1 sum=0\n' "$1" "$1"
+}
 case $1 in
-version) echo "${VERSION:-rattle-kit-5b} logic 0" ;;
-staticlib)
-    echo staticlib >>calls
-    mkdir -p target/staticlib
-    if [ -e target/proved ]; then
-        : >target/staticlib/libbarfigol.a
-        exit 0
+version) echo "${VERSION:-rattle-kit-13f} logic 0" ;;
+lib)
+    echo lib >>../../calls
+    mkdir -p out
+    if [ ! -e ../../proved ]; then
+        done_with "$(proved_one one)" "[0-9] s so far, crate 1 of 3: one proved"
+        done_with "$(proved_one two)" "[0-9] s so far, crate 2 of 3: two proved"
+        [ "${FAIL:-0}" -eq 0 ] || exit "$FAIL"
+        done_with "$(proved_one barfigol_c)" "[0-9] s so far, crate 3 of 3: barfigol_c proved"
     fi
-    done_with "one proved (1 s)" "[0-9] s so far, crate 1 of 3: one proved in 1 s" >&2
-    done_with "two proved (unchanged since it was last proved)" "[0-9] s so far, crate 2 of 3: two unchanged" >&2
-    [ "${FAIL:-0}" -eq 0 ] || exit "$FAIL"
-    : >target/staticlib/libbarfigol.a
-    done_with "target/staticlib/libbarfigol.a has the functions of barfigol" "[0-9] s so far, crate 3 of 3: barfigol proved, its archive written"
+    : >out/libbarfigol_c.a
+    ;;
+try)
+    echo listed
+    echo "run=ended status=0 runners=${RUNNERS:-2} proved=no" >&2
     ;;
 ci)
-    rm -rf target
-    done_with "one proved (1 s)" "[0-9] s so far, crate 1 of 3: one proved in 1 s"
-    done_with "two proved (2 s)" "[0-9] s so far, crate 2 of 3: two proved in 2 s"
-    done_with "barfigol proved (2 s)" "[0-9] s so far, crate 3 of 3: barfigol proved in 2 s"
-    done_with "must-fail two/a: refused, as it must be (first at proofs/P.antt:3:4; 2 s)" "[0-9] s so far, edit 1 of 2: two/a refused"
-    done_with "must-fail two/b: NOT REFUSED: the crate is still proved with this edit (2 s)" "[0-9] s so far, edit 2 of 2: two/b NOT REFUSED"
+    done_with "rt: one proved" "[0-9] s so far, crate 1 of 3: one proved"
+    done_with "rt: two is kept: an earlier run on this machine proved the same files over the same libraries" "[0-9] s so far, crate 2 of 3: two unchanged"
+    done_with "rt: barfigol_c proved" "[0-9] s so far, crate 3 of 3: barfigol_c proved"
+    done_with "rt: two: trying its must-fail edits (2)" "[0-9] s so far, trying edits of two"
+    done_with "rt: must-fail two/a.edit: refused, as it must be: proofs/P.antt:3:4: error: no" "[0-9] s so far, edit 1 of 2: two/a refused"
     if [ "${FAIL:-0}" -ne 0 ]; then
+        done_with "rt: must-fail two/b.edit: NOT REFUSED: the crate is still proved with this edit" "[0-9] s so far, edit 2 of 2: two/b NOT REFUSED"
+        echo "rt: FAILED: two/b.edit"
         echo "4 passed, 1 failed"
         exit "$FAIL"
     fi
-    mkdir target
-    : >target/proved
-    echo "rt: ok, 3 crates proved, 2 must-fail edits refused"
+    mkdir -p crates/one/out/rlib
+    : >proved
+    if [ "${BAD:-0}" -ne 0 ]; then
+        done_with "rt: must-fail two/b.edit: BAD EDIT: there is no file src/main.rt" "[0-9] s so far, edit 2 of 2: two/b BAD EDIT"
+        echo "rt: ok; handles allowed: none; must-fail edits: 1 refused, 1 bad; every proof and must-fail edit was done in this run"
+        echo "4 passed, 0 failed"
+        exit
+    fi
+    done_with "rt: must-fail two/b.edit: refused, as it must be (only by a limit of the prover): no" "[0-9] s so far, edit 2 of 2: two/b refused"
+    done_with "rt: list ran (built by Rattle's own compiler), and wrote what its file stdout has" "[0-9] s so far, program list ran as Rattle's own"
+    echo "rt: ok; handles allowed: none; must-fail edits: 2 refused${LIMIT-}; every proof and must-fail edit was done in this run"
     echo "5 passed, 0 failed"
     ;;
+*) exit 9 ;;
 esac
 END
 }
@@ -135,7 +154,7 @@ without_rt() {
     for script in ./barfigol ./test; do
         run "$script"
         ended "$script without rt" 2 $?
-        has "$made/told" "${script#./}: rt is missing: .* Version rattle-kit-5b was used: 'rt version' prints it\."
+        has "$made/told" "${script#./}: rt is missing: .* Version rattle-kit-13f was used: 'rt version' prints it\."
         [ ! -s "$made/out" ] || wrong "$script without rt prints something"
     done
     mv "$made/rt" "$made/bin/rt"
@@ -176,7 +195,7 @@ on_a_terminal() {
     make_tree
     (cd "$made/tree" && PATH=$made/bin:$PATH TOLD=$made/told TERM=xterm script -qefc './barfigol check a.table' "$made/told") >"$made/out" 2>&1 </dev/null
     ended "the first use on a terminal" 7 $?
-    tr '\r' '\n' <"$made/out" | grep -q 'so far, crate 3 of 3: barfigol proved' || wrong "nothing is told on a terminal"
+    tr '\r' '\n' <"$made/out" | grep -q 'so far, crate 3 of 3: barfigol_c proved' || wrong "nothing is told on a terminal"
     [ "$(tr -d '\r' <"$made/out" | grep -c 'crate . of 3')" -eq 1 ] || wrong "progress takes more than a line on a terminal"
 }
 
@@ -184,8 +203,8 @@ proofs_that_fail() {
     make_tree
     FAIL=3 run ./barfigol check a.table
     ended "a first use whose proofs fail" 2 $?
-    has "$made/told" "rt: two proved .*"
-    has "$made/told" "barfigol: this failed: rt staticlib barfigol"
+    has "$made/told" "fn two::f: proved"
+    has "$made/told" "barfigol: this failed: rt lib"
     FAIL=3 run ./test
     ended "a test whose proofs fail" 3 $?
     [ "$(tail -n 1 "$made/out")" = "4 passed, 1 failed" ] || wrong "the verdict of rt is not the last line"
@@ -195,7 +214,7 @@ another_version() {
     make_tree
     VERSION=rattle-kit-4 run ./barfigol check a.table
     ended "another version of rt" 7 $?
-    has "$made/told" "barfigol: rt is of version rattle-kit-4 logic 0, and the proofs were made with rattle-kit-5b"
+    has "$made/told" "barfigol: rt is of version rattle-kit-4 logic 0, and the proofs were made with rattle-kit-13f"
 }
 
 # What a reader takes for a verdict.
@@ -215,11 +234,59 @@ whole_test() {
     has "$made/told" "test: trying: from C"
 }
 
+# An edit that rt could not try fails the test, though rt ends well; one that only a limit of the prover refused does not.
+bad_edit() {
+    make_tree
+    BAD=1 run ./test
+    ended "a test with a bad edit" 1 $?
+    [ "$(tail -n 1 "$made/out")" = "must-fail edits: FAILED, for not each of the 2 was refused" ] || wrong "a bad edit is not named last"
+    [ "$(verdicts "$made/out")" -eq 0 ] || wrong "a test with a bad edit looks like a verdict"
+    make_tree
+    printf '#!/bin/sh\nexit 0\n' >"$made/tree/barfigol"
+    QUICK=1 LIMIT=", 1 of them only by a limit" run ./test
+    ended "a test whose edit a limit refused" 0 $?
+}
+
+# A program that only one of rt's two runs gave an answer of.
+unanswered() {
+    make_tree
+    QUICK=1 RUNNERS=1 run ./test
+    ended "a test whose program ran once" 1 $?
+    [ "$(tail -n 1 "$made/out")" = "the programs on the interpreter and compiled with checks: FAILED" ] || wrong "the program's run is not named last"
+}
+
+# Behind the proofs of a checkout where nothing was built before, the archive is built over the libraries of `rt ci`. Elsewhere, or where that fails, `rt lib`
+# builds it.
+archive_behind_proofs() {
+    play rattle <<'END'
+#!/bin/sh
+echo "$*" >>../../built
+[ ! -e ../../refused ] || exit 1
+while [ $# -gt 1 ] && [ "$1" != -o ]; do shift; done
+: >"$2"
+END
+    for case in clean refused built; do
+        make_tree
+        printf '#!/bin/sh\nexit 0\n' >"$made/tree/barfigol"
+        case $case in
+        clean) wanted=rattle ;;
+        refused) wanted="rattle rt" && : >"$made/tree/refused" ;;
+        built) wanted=rt && mkdir -p "$made/tree/crates/two/out/rlib" ;;
+        esac
+        QUICK=1 run ./test
+        ended "a test of a checkout that is $case" 0 $?
+        [ -e "$made/tree/target/staticlib/libbarfigol.a" ] || wrong "$case: there is no archive"
+        by=$(cd "$made/tree" && { [ ! -e built ] || echo rattle; [ ! -e calls ] || echo rt; } | paste -sd ' ')
+        [ "$by" = "$wanted" ] || wrong "$case: the archive is built by $by"
+    done
+    rm "$made/bin/rattle"
+}
+
 # Every line that a failed test prints is shown, whatever it counts.
 failed_test() {
     make_tree
     printf '#!/bin/sh\necho "10 failed"; echo "12 passed, 0 failed"; echo "test result: ok. 3 passed; 0 failed"; exit 1\n' >"$made/tree/tests/list.sh"
-    run ./test
+    QUICK=1 run ./test
     ended "a test with a fault" 1 $?
     has "$made/out" " +\| 10 failed"
     has "$made/out" " +\| 12 passed, 0 failed"
@@ -230,7 +297,7 @@ failed_test() {
 
 # The figures and the version that the scripts say stand on the first page too.
 on_the_first_page() {
-    for text in rattle-kit-5b "about 5 minutes" "15 to 18 minutes"; do
+    for text in rattle-kit-13f "about 5 minutes" "15 to 18 minutes"; do
         grep -q "$text" README.md || wrong "README.md does not say: $text"
     done
 }
@@ -243,6 +310,9 @@ on_a_terminal
 proofs_that_fail
 another_version
 whole_test
+bad_edit
+unanswered
+archive_behind_proofs
 failed_test
 on_the_first_page
 exit "$failed"

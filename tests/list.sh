@@ -1,8 +1,10 @@
 #!/bin/sh
 # The listing program at the edges of its input: what it writes is compared byte by byte with what is right.
+# list.sh PROGRAM
 set -u
 cd "$(dirname "$0")/.." || exit 1
-list=target/bin/list
+list=$1
+[ -x "$list" ] || exit 1
 made=$(mktemp -d) || exit 1
 trap 'rm -rf "$made"' EXIT
 failed=0
@@ -18,8 +20,7 @@ repeat() { # COUNT FORMAT
 
 # Runs the program on standard input's bytes and compares.
 same() { # WHAT INPUT WANTED
-    "$list" <"$2" >"$made/text"
-    if cmp -s "$made/text" "$3"; then
+    if "$list" <"$2" >"$made/text" && cmp -s "$made/text" "$3"; then
         printf '%s: as it should be\n' "$1"
     else
         printf '%s: wrong, it begins and ends:\n' "$1"

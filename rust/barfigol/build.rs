@@ -1,4 +1,4 @@
-//! Finds the proved library's archive. `rt staticlib barfigol` writes it.
+//! Finds the proved library's archive. `scripts/archive.sh` writes it.
 
 use std::env;
 use std::path::PathBuf;
@@ -19,7 +19,7 @@ fn main() {
     println!("cargo:rerun-if-env-changed={FOLDER}");
     println!("cargo:rerun-if-changed={}", archive.display());
     if !archive.is_file() {
-        println!("cargo:warning={} is missing: run `rt staticlib barfigol`, or name its folder by {FOLDER}", archive.display());
+        println!("cargo:warning={} is missing: run `scripts/archive.sh`, or name its folder by {FOLDER}", archive.display());
     }
     println!("cargo:rustc-link-search=native={}", folder.display());
     println!("cargo:rustc-link-lib=static=barfigol");

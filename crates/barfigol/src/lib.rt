@@ -1,4 +1,4 @@
-// The library for C and Rust, as include/barfigol.h declares it. A slice is a pointer and a length there.
+// The library's three calls, as include/barfigol.h declares them. `barfigol_c` exports them to C and Rust.
 #![tactic(auto)]
 
 ghost use Rattle.std.specs.Prelude.{◌≡◌};
@@ -69,16 +69,14 @@ fn translated(translation: Translation) -> Answer
 }
 
 // Checks a table.
-#[unsafe(no_mangle)]
-pub extern "C" fn barfigol_check(table: &[u8]) -> Answer
+pub fn barfigol_check(table: &[u8]) -> Answer
     ensures { answer_of result ≡ Answers.check table.now }
 {
     checked(checker::check(table))
 }
 
 // Works out each constraint of a table for one assignment, under one reading.
-#[unsafe(no_mangle)]
-pub extern "C" fn barfigol_evaluate(
+pub fn barfigol_evaluate(
     choice: u32,
     table: &[u8],
     assignment: &[i32],
@@ -91,8 +89,7 @@ pub extern "C" fn barfigol_evaluate(
 }
 
 // Translates a table under one reading.
-#[unsafe(no_mangle)]
-pub extern "C" fn barfigol_translate(choice: u32, table: &[u8], out: &mut [u8]) -> Answer
+pub fn barfigol_translate(choice: u32, table: &[u8], out: &mut [u8]) -> Answer
     ensures { outcome_of result out.new ≡ Answers.translate choice table.now out.old }
 {
     translated(translation::translate(choice, table, out))

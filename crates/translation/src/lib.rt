@@ -130,7 +130,9 @@ fn translate_sound(reading: Reading, table: &[u8], out: &mut [u8]) -> Translatio
     Translation::Done(length)
 }
 
-// A translation under a reading: what the check refuses comes before all else.
+// A translation under a reading: what the check refuses comes before all else. It is a function of its own in the machine code: with the test of the choice in
+// front of its large frame LLVM loses a register there (`tests/probes.sh`).
+#[inline(never)]
 fn translate_under(reading: Reading, table: &[u8], out: &mut [u8]) -> Translation
     ensures { TranslatesUnder (meant reading) table.now out.old (outcome_of result out.new) }
 {

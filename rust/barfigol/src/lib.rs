@@ -2,7 +2,7 @@
 //! translates them into tables with nothing undefined.
 //!
 //! This is a safe door to the proved library, whose archive the build links:
-//! `rt staticlib barfigol` writes it, and `BARFIGOL_LIB_DIR` may name another
+//! `scripts/archive.sh` writes it, and `BARFIGOL_LIB_DIR` may name another
 //! folder. The archive is code for Linux on x86-64, and nothing else is built.
 //! docs/TABLE.md describes the table; `barfigol_format` has a builder of tables.
 //!

@@ -1,0 +1,9 @@
+-- `list::read_full` meets its contract: what was read lies within the buffer, and each read that goes on takes a byte or more.
+use Rattle.std.specs.Prelude.{length, ◌-◌, ◌≤◌}
+use Rattle.list.proofs.read_full.Given as goal
+
+abbrev pub invariant-loop-done : goal.invariant-loop-done
+invariant-loop-done g l = l.done ≤ length l.buffer
+
+abbrev pub decreases-loop-done : goal.decreases-loop-done
+decreases-loop-done g l = length l.initial.buffer - l.done
