@@ -31,12 +31,12 @@ put_archive() {
     mkdir -p "${archive%/*}" && cp "$root/crates/barfigol_c/out/libbarfigol_c.a" "$archive.new" && mv -f "$archive.new" "$archive" && touch "$archive"
 }
 
-# The time that is said here is that of a first build on four processors; README.md has it too.
+# The time that is said here is that of a first build; README.md has it too. Of a library that is built already rt says nothing.
 build_archive() {
     need_rt && need cc gcc libc6-dev || exit 2
     crates=$(crates_of barfigol_c)
     say "proving and building the library: $crates crates, about 5 minutes the first time"
-    cd "$root/crates/barfigol_c" && with_progress "$crates" 0 rt lib && put_archive || build_failed rt lib
+    cd "$root/crates/barfigol_c" && with_progress "up to $crates" 0 rt lib && put_archive || build_failed rt lib
 }
 
 # Whether no library of the repository was built yet in this checkout.

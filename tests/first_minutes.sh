@@ -101,10 +101,10 @@ lib)
     echo lib >>../../calls
     mkdir -p out
     if [ ! -e ../../proved ]; then
-        done_with "$(proved_one one)" "[0-9] s so far, crate 1 of 3: one proved"
-        done_with "$(proved_one two)" "[0-9] s so far, crate 2 of 3: two proved"
+        done_with "$(proved_one one)" "[0-9] s so far, crate 1 of up to 3: one proved"
+        done_with "$(proved_one two)" "[0-9] s so far, crate 2 of up to 3: two proved"
         [ "${FAIL:-0}" -eq 0 ] || exit "$FAIL"
-        done_with "$(proved_one barfigol_c)" "[0-9] s so far, crate 3 of 3: barfigol_c proved"
+        done_with "$(proved_one barfigol_c)" "[0-9] s so far, crate 3 of up to 3: barfigol_c proved"
     fi
     : >out/libbarfigol_c.a
     ;;
@@ -174,7 +174,7 @@ first_use() {
     touch "$made/tree/crates/one/src/lib.rt"
     run ./barfigol again
     ended "the use after a change" 7 $?
-    [ "$(grep -c 'crate . of 3' "$made/told")" -eq 3 ] || wrong "after a change of the code nothing is proved"
+    [ "$(grep -c 'crate . of up to 3' "$made/told")" -eq 3 ] || wrong "after a change of the code nothing is proved"
 }
 
 # Of two first uses at the same time, one proves and the other waits for it.
@@ -195,8 +195,8 @@ on_a_terminal() {
     make_tree
     (cd "$made/tree" && PATH=$made/bin:$PATH TOLD=$made/told TERM=xterm script -qefc './barfigol check a.table' "$made/told") >"$made/out" 2>&1 </dev/null
     ended "the first use on a terminal" 7 $?
-    tr '\r' '\n' <"$made/out" | grep -q 'so far, crate 3 of 3: barfigol_c proved' || wrong "nothing is told on a terminal"
-    [ "$(tr -d '\r' <"$made/out" | grep -c 'crate . of 3')" -eq 1 ] || wrong "progress takes more than a line on a terminal"
+    tr '\r' '\n' <"$made/out" | grep -q 'so far, crate 3 of up to 3: barfigol_c proved' || wrong "nothing is told on a terminal"
+    [ "$(tr -d '\r' <"$made/out" | grep -c 'crate . of up to 3')" -eq 1 ] || wrong "progress takes more than a line on a terminal"
 }
 
 proofs_that_fail() {
