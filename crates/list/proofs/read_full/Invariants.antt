@@ -1,9 +1,10 @@
--- `list::read_full` meets its contract: what was read lies within the buffer, and each read that goes on takes a byte or more.
-use Rattle.std.specs.Prelude.{length, ◌-◌, ◌≤◌}
+-- `list::read_full` meets its contract: what was read lies within the buffer and is what the input lost, and each read that goes on takes a byte or more.
+use Rattle.std.specs.Prelude.{◌≡◌, ◌-◌, ◌≤◌, length, take}
+use Rattle.std.specs.Io.KnownBytes.{Consumes}
 use Rattle.list.proofs.read_full.Given as goal
 
 abbrev pub invariant-loop-done : goal.invariant-loop-done
-invariant-loop-done g l = l.done ≤ length l.buffer
+invariant-loop-done g l = (length l.buffer ≡ length l.initial.buffer) × (l.done ≤ length l.buffer) × Consumes (g.R.Read.remaining l.initial.input) (g.R.Read.remaining l.input) (take l.done l.buffer)
 
 abbrev pub decreases-loop-done : goal.decreases-loop-done
 decreases-loop-done g l = length l.initial.buffer - l.done
