@@ -127,9 +127,13 @@ pub fn shell(folder: &Path, line: &str) -> Ran {
         .into()
 }
 
-/// An empty folder for one test.
+/// An empty folder for one test. It is outside the checkout, for some tests
+/// leave links, and `rt ci` passes no checkout that has one.
 pub fn folder(name: &str) -> PathBuf {
-    let folder = Path::new(env!("CARGO_TARGET_TMPDIR")).join(name);
+    let checkout = env!("CARGO_TARGET_TMPDIR").replace('/', "-");
+    let folder = std::env::temp_dir()
+        .join(format!("barfigol{checkout}"))
+        .join(name);
     let _ = std::fs::remove_dir_all(&folder);
     std::fs::create_dir_all(&folder).expect("a folder");
     folder
