@@ -1,6 +1,6 @@
--- The exported functions: each asks nothing and keeps its contract, which is the page's promise, so that the demands hold of what it gives, and its
+-- The functions that are exported: each asks nothing and keeps its contract, which is the page's promise, so that the demands hold of what it gives, and its
 -- struct and the bytes that it was lent are the only ones. `κs` are the lifetimes of a call, `args` what it is given, `after` the same at the end, and
--- `Learnt` is what the contract says of them.
+-- `Learnt` is what the contract says of them. That the exports of `barfigol_c` have the same contracts is `Exported` there.
 use mathlib.Core.Path.{◌≡◌, sym, ap, ◌∙◌}
 use Prim.Native.Nat.{ℕ}
 use mathlib.Core.List.{List}
