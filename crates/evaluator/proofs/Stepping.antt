@@ -37,6 +37,13 @@ to-operand e h = omega arith
 pub to-node : {t n a : ℕ} → 3 * n + 1 ≡ t → a < n → 3 * a + 1 < t
 to-node e h = omega arith
 
+pub same-node : {t : ℕ} (n : ℕ) → 3 * n + 2 ≡ t → 3 * n + 1 < t
+same-node n e = omega arith
+
+-- A node's record lies within the table.
+pub node_in : {bs places : List ℕ} {values : List ℤ} {n : ℕ} → Ready bs places values n → nodes_from places + n < 5000
+node_in l = omega (arith, l.laid.nodes_in, l.named)
+
 -- ---- a node's case
 
 leaf-row : (ρ : readings.Reading) (bs places : List ℕ) (α : Assignment) (values : List ℤ) (r : Row) {m : Walked} → leaf_of α (setting_of values) r ≡ Is m →
