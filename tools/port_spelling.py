@@ -9,7 +9,7 @@ usage: python3 tools/port_spelling.py        at the top, once, with everything c
   underscores: by-cases is by_cases.
 - What a comment quotes in backquotes, and what the must-fail edits quote, goes along.
 
-Names of src/, strings and what Rattle generates (behind a dot in a function's own proof) stay. It stops where two names fall together.
+Names of src/, strings and what Rattle generates (behind a dot in a function's own proof) stay. A line 'look:' tells of two names that fall together.
 """
 
 import collections
