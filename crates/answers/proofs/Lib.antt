@@ -29,7 +29,7 @@ pub mod RowWords
 pub mod RunEnds
 pub mod Runs
 pub mod SameFaults
-pub mod SignedWords
+pub mod SameTests
 pub mod SoundSections
 pub mod TotalBytes
 pub mod Translatable

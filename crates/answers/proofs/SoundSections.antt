@@ -48,10 +48,6 @@ module _ (bs : List ℕ) where
   unfolding array_fault
   array-below j p e = let passed = none-unless 3 _ e in ltb→lt j most_arrays (search &&-fst)
 
-  pub array_kind : (j p : ℕ) → array_fault bs j p ≡ none → kind_at bs p ≤ 1
-  unfolding array_fault is_kind
-  array_kind j p e = let passed = none-unless 3 _ e in leb→le (kind_at bs p) 1 (search (&&-fst, &&-snd))
-
   -- how the faults of the arrays go on, and end
   pub arrays-fault-on : (k j p : ℕ) → marked bs AR p ≡ true
       → arrays_fault bs (suc k) j p

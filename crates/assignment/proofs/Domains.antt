@@ -7,12 +7,7 @@ use mathlib.Core.Option.{Option, none}
 use borrow.Author.Tests.{eq-eqb, ne_eqb}
 use lib.IntN.{ℤ, pos}
 use lib.ListN.{length, get_or}
-use lib.Signed.{le_z}
-use mir.Syntax.{w32, w64}
-use mir.Val.{SFits, to_z, of_z}
-use mir.Facts.{to_z-of_z}
 use Rattle.numbers.specs.Whole.{between}
-use Rattle.numbers.proofs.Widths.{through, arrives}
 use Rattle.language.specs.Meaning.{Assignment, value_of}
 use Rattle.rules.specs.Bounds.{variable_at}
 use Rattle.table.specs.Records.{x_at, y_at}
@@ -21,22 +16,6 @@ use Rattle.answers.specs.Check.{refuse, unless, first_fault}
 use Rattle.answers.specs.Answers.{assignment_fault}
 use Rattle.answers.proofs.Declared.{length-variables, variable_at-declarations}
 use Rattle.answers.proofs.Faults.{first_more, first-at}
-
--- ---- one value against the ends of its domain, as the code holds them
-
-module _ (low high value : ℤ) (fits : SFits w32 value) {x : ℤ} (ex : x ≡ low) (fx : SFits w64 x) where
-  tested : {t : Bool} → le_z (to_z w64 (of_z w64 x)) (through value) ≡ t → le_z low value ≡ t
-  tested e = rw (to_z-of_z fx, arrives value fits, ex) at e
-
-  pub not_below : le_z (to_z w64 (of_z w64 x)) (through value) ≡ true → {y : ℤ} → y ≡ high → SFits w64 y → le_z (through value) (to_z w64 (of_z w64 y)) ≡ between low high value
-  unfolding between
-  not_below e {y} ey fy = rw (tested e, to_z-of_z fy, arrives value fits, ey)
-
-  pub below-low : le_z (to_z w64 (of_z w64 x)) (through value) ≡ false → false ≡ between low high value
-  unfolding between
-  below-low e = rw (tested e)
-
--- ---- the first value outside
 
 module _ (bs : List ℕ) (α : Assignment) where
   -- the fault of one variable's value

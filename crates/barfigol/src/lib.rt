@@ -3,16 +3,14 @@
 
 ghost use Rattle.std.specs.Prelude.{◌≡◌};
 ghost use Rattle.answers.specs.Answers as Answers;
-ghost use Rattle.verdict.specs.Results as Verdict;
-ghost use Rattle.evaluation.specs.Results as Evaluated;
-ghost use Rattle.translation.specs.Results as Translated;
+ghost use Rattle.barfigol.specs.Given.{answer_in};
 ghost use Rattle.barfigol.specs.Results.{answer_of, outcome_of};
 
-use evaluation::Evaluation;
-use translation::Translation;
-use verdict::Check;
+use evaluation::Totals;
+use verdict::Refused;
 
 // What a call gives back. A field that a call has nothing to say about is 0 or false.
+// Kept: numbers in place of a Result, as include/barfigol.h has them; the clauses of the three calls go by this struct.
 #[repr(C)]
 #[derive(Clone, Copy)]
 pub struct Answer {
@@ -28,43 +26,28 @@ pub struct Answer {
     pub all_true: bool,
 }
 
-// What a check says, in numbers.
-fn checked(check: Check) -> Answer
-    ensures { answer_of result ≡ Verdict.answer_of check }
-{
-    Answer {
-        number: verdict::number(check),
-        record: verdict::record(check),
-        steps: 0,
-        length: 0,
-        all_true: false,
-    }
-}
+// What a call gives, in numbers.
+impl<E: Refused + Drop> From<Result<Totals, E>> for Answer {
+    ghost from_gives = { λ given answer. answer_of answer ≡ answer_in E.told given };
 
-// What an evaluation says, in numbers.
-fn evaluated(evaluation: Evaluation) -> Answer
-    ensures { answer_of result ≡ Evaluated.answer_of evaluation }
-{
-    let totals = evaluation::totals_of(evaluation);
-    Answer {
-        number: evaluation::number(evaluation),
-        record: evaluation::record(evaluation),
-        steps: totals.steps,
-        length: totals.written,
-        all_true: totals.all,
-    }
-}
-
-// What a translation says, in numbers.
-fn translated(translation: Translation) -> Answer
-    ensures { answer_of result ≡ Translated.answer_of translation }
-{
-    Answer {
-        number: translation::number(translation),
-        record: translation::record(translation),
-        steps: 0,
-        length: translation::length(translation),
-        all_true: false,
+    #[tactic(auto, unfolding(answers::specs::Answers::done, answers::specs::Answers::refused))]
+    fn from(given: Result<Totals, E>) -> Answer {
+        match given {
+            Ok(totals) => Answer {
+                number: 0,
+                record: 0,
+                steps: totals.steps,
+                length: totals.written,
+                all_true: totals.all,
+            },
+            Err(refusal) => Answer {
+                number: refusal.number(),
+                record: refusal.record(),
+                steps: 0,
+                length: 0,
+                all_true: false,
+            },
+        }
     }
 }
 
@@ -72,7 +55,7 @@ fn translated(translation: Translation) -> Answer
 pub fn barfigol_check(table: &[u8]) -> Answer
     ensures { answer_of result ≡ Answers.check table.now }
 {
-    checked(checker::check(table))
+    checker::check(table).map(|_| Totals::default()).into()
 }
 
 // Works out each constraint of a table for one assignment, under one reading.
@@ -85,12 +68,18 @@ pub fn barfigol_evaluate(
 ) -> Answer
     ensures { outcome_of result verdicts.new ≡ Answers.evaluate choice table.now assignment.now budget verdicts.old }
 {
-    evaluated(evaluation::evaluate(choice, table, assignment, budget, verdicts))
+    evaluation::evaluate(choice, table, assignment, budget, verdicts).into()
 }
 
 // Translates a table under one reading.
 pub fn barfigol_translate(choice: u32, table: &[u8], out: &mut [u8]) -> Answer
     ensures { outcome_of result out.new ≡ Answers.translate choice table.now out.old }
 {
-    translated(translation::translate(choice, table, out))
+    translation::translate(choice, table, out)
+        .map(|written| Totals {
+            steps: 0,
+            written,
+            all: false,
+        })
+        .into()
 }

@@ -8,7 +8,12 @@ use lib.IntN.{ℤ, pos, nat_abs}
 use lib.ListN.{length, get_or}
 use mathlib.Core.Logic.{⊎_elim}
 use Rattle.numbers.proofs.Naturals.{lt_or_ge}
-use Rattle.language.specs.Syntax.{Element, Declarations}
+use mir.Syntax.{w32}
+use mir.Val.{of_z, to_z}
+use Rattle.table.specs.declared.Record.{Record}
+use Rattle.table.specs.Parts.{parts_of}
+use Rattle.table.proofs.Parts.{x-read, y-read}
+use Rattle.language.specs.Syntax.{Element, Slot, Declarations}
 use Rattle.language.specs.Meaning.{slot_at, no_slot, array_at, no_array}
 use Rattle.rules.specs.Bounds.{Interval, ◌to◌, hull, only, variable_interval, no_variable, element_interval, hull_with, elements_interval}
 use Rattle.table.specs.Records.{record_count, kind_at, x_at, y_at}
@@ -18,7 +23,39 @@ use Rattle.answers.proofs.Declared.{variable_at-declarations, variable_at-past, 
 use Rattle.layout.specs.Passed.{Passed}
 use Rattle.layout.proofs.Order.{behind-≤}
 use Rattle.bounds.specs.Kept.{Hulls}
+use Rattle.intervals.specs.Spans.{interval_of}
+use Rattle.intervals.specs.declared.Interval as Declared
 use Rattle.numbers.proofs.Lists.{Filled}
+
+-- an interval as the code holds it, and 0..0
+abbrev pub held : Interval → Declared.Interval
+held i = record { low = i.low; high = i.high }
+
+abbrev pub nothing : Declared.Interval
+nothing = held (pos 0 to pos 0)
+
+pub slot-cong : {a b c d : ℤ} → a ≡ c → b ≡ d → ◌≡◌ {A = Slot} (record { low = a; high = b }) (record { low = c; high = d })
+slot-cong p q = cc
+
+pub hull-cong : {i j k l : Interval} → i ≡ k → j ≡ l → hull i j ≡ hull k l
+hull-cong p q = cc
+
+-- The fields of a record as the code has read them.
+module _ (bs : List ℕ) (k : ℕ) {r : Record} (e : r ≡ parts_of bs k) where
+  pub x-field : to_z w32 (of_z w32 r.x) ≡ x_at bs k
+  x-field = ap (λ (r : Record). to_z w32 (of_z w32 r.x)) e ∙ x-read bs k
+
+  pub y-field : to_z w32 (of_z w32 r.y) ≡ y_at bs k
+  y-field = ap (λ (r : Record). to_z w32 (of_z w32 r.y)) e ∙ y-read bs k
+
+  pub kind-field : r.kind ≡ kind_at bs k
+  kind-field = ap (λ (r : Record). r.kind) e
+
+  pub x-names : {n : ℕ} → n ≡ nat_abs r.x → n ≡ nat_abs (x_at bs k)
+  x-names f = f ∙ ap (λ (r : Record). nat_abs r.x) e
+
+  pub y-names : {n : ℕ} → n ≡ nat_abs r.y → n ≡ nat_abs (y_at bs k)
+  y-names f = f ∙ ap (λ (r : Record). nat_abs r.y) e
 
 module _ (bs : List ℕ) where
   pub domain_of : (v : ℕ) {p : ℕ} → v < variable_count bs → p ≡ variables_at bs + v → (x_at bs p to y_at bs p) ≡ variable_interval (declarations bs) v
@@ -85,9 +122,8 @@ module _ (bs : List ℕ) where
   unfolding array_records nodes_at
   behind-inside w a h e = rw e (omega (arith, behind-≤ bs (record_count bs) (arrays_at bs) a h, w.inside))
 
-  pub hulls_of : {lows highs : List ℤ} {size a : ℕ} → Filled (pos 0) size (λ k. (elements_interval (declarations bs) (array_at (declarations bs) k).elements).low) lows a → Filled (pos 0) size (λ k. (elements_interval (declarations bs) (array_at (declarations bs) k).elements).high) highs a → length (array_records bs) ≤ a → Hulls (declarations bs) lows highs
-  hulls_of {a = a} l h all =
+  pub hulls_of : {is : List Declared.Interval} {size a : ℕ} → Filled nothing size (λ k. held (elements_interval (declarations bs) (array_at (declarations bs) k).elements)) is a → length (array_records bs) ≤ a → Hulls (declarations bs) is
+  hulls_of {a = a} w all =
       record {
-        low = λ k. ⊎_elim (λ m. l.before k m) (λ m. l.after k m ∙ sym (ap (λ i. i.low) (no-array-elements k (omega arith)))) (lt_or_ge k a);
-        high = λ k. ⊎_elim (λ m. h.before k m) (λ m. h.after k m ∙ sym (ap (λ i. i.high) (no-array-elements k (omega arith)))) (lt_or_ge k a);
+        same = λ k. ⊎_elim (λ m. ap interval_of (w.before k m)) (λ m. ap interval_of (w.after k m) ∙ sym (no-array-elements k (omega arith))) (lt_or_ge k a);
       }

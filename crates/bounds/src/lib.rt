@@ -1,207 +1,145 @@
 // "Bounds before translation": the interval of every node in one pass, which stops at the first one beyond the limit.
 #![tactic(auto)]
 
-ghost use Rattle.std.specs.Prelude.{◌≡◌, ◌+◌, ◌<◌, ◌≤◌, pos, get_or, replicate};
-ghost use Rattle.numbers.specs.Limits.{most_arrays};
+ghost use Rattle.std.specs.Prelude.{◌≡◌, ◌<◌, ◌≤◌, length};
 ghost use Rattle.language.specs.Meaning.{slot_at};
 ghost use Rattle.rules.specs.Bounds.{variable_interval, element_interval, elements_interval};
 ghost use Rattle.table.specs.Records.{record_count};
 ghost use Rattle.answers.specs.Sections.{declarations, element_of, array_of, behind_array, node_count};
 ghost use Rattle.answers.specs.Answers.{bounds_fault};
-ghost use Rattle.layout.specs.Passed.{Passed};
-ghost use Rattle.sections.specs.Places.{places_of};
-ghost use Rattle.intervals.specs.Spans.{span, as_slot, Narrow};
+ghost use Rattle.intervals.specs.Spans.{span, interval_of, as_slot};
 ghost use Rattle.bounds.specs.Kept.{kept_at, trees_before, node_ends, Kept, Hulls, refusal_of};
 
-use intervals::{
-    Ends, greater, hull, lesser, minus, negated, only, plus, quotients, remainders, slot_values,
-    summed, times, within_limit,
-};
-use layout::array_records;
-use layout::fields::{kind_at, name_x, name_y, x_at, y_at};
-use sections::Places;
-use table::{MOST_RECORDS, kind};
+use intervals::{Ends, Interval, Slot};
+use layout::checked_table::CheckedTable;
+use table::MOST_RECORDS;
+use table::kind::Kind;
 
-// What the pass answers: every interval is within the limit, or the record of the first node whose interval is not.
-#[derive(Clone, Copy)]
-pub enum Bounds {
-    Within,
-    Beyond(usize),
-}
+// The record of the first node whose interval is beyond the limit.
+#[derive(Clone, Copy, Debug, PartialEq, Eq)]
+pub struct Beyond(pub usize);
 
 // A variable's domain.
-fn domain(s: &[u8], at: Places, v: usize) -> Ends
-    requires passed { Passed s.now }
-    requires at_value { at ≡ places_of s.now }
-    ensures { span result ≡ variable_interval (declarations s.now) v }
+fn domain(table: &CheckedTable, v: usize) -> Interval
+    ensures { interval_of result ≡ variable_interval (declarations table.now.bytes.now) v }
 {
-    let end = at.slots - 1;
-    if v < end {
-        Ends {
-            low: x_at(s, v + 1),
-            high: y_at(s, v + 1),
-        }
-    } else {
-        Ends { low: 0, high: 0 }
+    if v >= table.variable_count() {
+        return Interval::ZERO;
+    }
+    let variable = table.record_at(1 + v);
+    Interval {
+        low: variable.x,
+        high: variable.y,
     }
 }
 
-// A slot's x and y.
-fn slot_ends(s: &[u8], at: Places, n: usize) -> Ends
-    requires passed { Passed s.now }
-    requires at_value { at ≡ places_of s.now }
-    ensures result_value { as_slot result ≡ slot_at (declarations s.now) n }
-    ensures narrow { Narrow result }
+// A slot's range, and an empty one past the last slot.
+fn slot(table: &CheckedTable, n: usize) -> Slot
+    ensures { as_slot result ≡ slot_at (declarations table.now.bytes.now) n }
 {
-    let first = at.slots;
-    let count = at.arrays - first;
-    if n < count {
-        Ends {
-            low: x_at(s, first + n),
-            high: y_at(s, first + n),
-        }
-    } else {
-        Ends { low: 1, high: 0 }
+    if n >= table.slot_count() {
+        return Slot { low: 1, high: 0 };
+    }
+    let slot = table.record_at(table.at.slots + n);
+    Slot {
+        low: slot.x,
+        high: slot.y,
     }
 }
 
 // What the element of record p can be.
-fn element(s: &[u8], at: Places, p: usize) -> Ends
-    requires passed { Passed s.now }
-    requires at_value { at ≡ places_of s.now }
-    requires p_bound { p < record_count s.now }
-    ensures { span result ≡ element_interval (declarations s.now) (element_of s.now p) }
+fn element(table: &CheckedTable, p: usize) -> Interval
+    requires { p < record_count table.now.bytes.now }
+    ensures { interval_of result ≡ element_interval (declarations table.now.bytes.now) (element_of table.now.bytes.now p) }
 {
-    if kind_at(s, p) == 0 {
-        only(x_at(s, p))
+    let element = table.record_at(p);
+    if element.kind == 0 {
+        Interval::only(element.x)
     } else {
-        domain(s, at, name_x(s, p))
+        let (variable, _) = element.named();
+        domain(table, variable as usize)
     }
 }
 
 // The hull of the elements of the array of record p.
-fn elements(s: &[u8], at: Places, p: usize) -> Ends
-    requires passed { Passed s.now }
-    requires at_value { at ≡ places_of s.now }
-    requires p_bound { behind_array s.now p ≤ record_count s.now }
-    ensures { span result ≡ elements_interval (declarations s.now) (array_of s.now p).elements }
+fn elements(table: &CheckedTable, p: usize) -> Interval
+    requires { behind_array table.now.bytes.now p ≤ record_count table.now.bytes.now }
+    ensures { interval_of result ≡ elements_interval (declarations table.now.bytes.now) (array_of table.now.bytes.now p).elements }
 {
-    let count = name_y(s, p);
+    let (_, count) = table.record_at(p).named();
     if count == 0 {
-        return Ends { low: 0, high: 0 };
+        return Interval::ZERO;
     }
-    let mut all = element(s, at, p + 1);
-    let mut i = 1;
-    while i < count {
-        all = hull(all, element(s, at, p + 1 + i));
-        i += 1;
+    let mut all = element(table, p + 1);
+    for q in p + 2..p + 1 + count as usize {
+        all = all.hull(element(table, q));
     }
     all
 }
 
-// An end that is kept: 0 where there is none.
-fn kept(ends: &[i64], k: usize) -> i64
-    ensures { result ≡ get_or ends.now k (pos 0) }
+// The hull of every array.
+fn array_hulls(table: &CheckedTable) -> [Interval; 64]
+    ensures { Hulls (declarations table.now.bytes.now) result }
 {
-    if k < ends.len() { ends[k] } else { 0 }
+    let records = table.array_records();
+    let mut hulls = [Interval::ZERO; 64];
+    for a in 0..table.at.array_count {
+        hulls[a] = elements(table, records[a]);
+    }
+    hulls
 }
 
 // The interval that is kept at k: 0..0 where there is none.
-fn operand(lows: &[i64], highs: &[i64], k: usize) -> Ends
-    ensures { span result ≡ kept_at lows.now highs.now k }
+fn kept_at(intervals: &[Interval], k: usize) -> Interval
+    ensures { interval_of result ≡ kept_at intervals.now k }
 {
-    Ends {
-        low: kept(lows, k),
-        high: kept(highs, k),
-    }
+    intervals.get(k).copied().unwrap_or(Interval::ZERO)
 }
 
-// The hull of every array.
-fn array_hulls(s: &[u8], at: Places, lows: &mut [i64], highs: &mut [i64])
-    requires passed { Passed s.now }
-    requires at_value { at ≡ places_of s.now }
-    requires lows_value { lows.old ≡ replicate most_arrays (pos 0) }
-    requires highs_value { highs.old ≡ replicate most_arrays (pos 0) }
-    ensures { Hulls (declarations s.now) lows.new highs.new }
+// The interval of the node behind those whose intervals are kept.
+fn node_ends(table: &CheckedTable, hulls: &[Interval], kept: &[Interval]) -> Ends
+    requires inside { length kept.now < node_count table.now.bytes.now }
+    requires kept { Kept (declarations table.now.bytes.now) (trees_before table.now.bytes.now (length kept.now)) kept.now }
+    requires hulls { Hulls (declarations table.now.bytes.now) hulls.now }
+    ensures { span result ≡ node_ends table.now.bytes.now (length kept.now) }
 {
-    let places = array_records(s, at);
-    let count = at.array_count;
-    let mut a = 0;
-    while a < count {
-        let all = elements(s, at, places[a]);
-        let low = all.low;
-        let high = all.high;
-        lows[a] = low;
-        highs[a] = high;
-        a += 1;
-    }
-}
-
-// The interval of node n from those of the nodes before it.
-fn node_ends(
-    s: &[u8],
-    at: Places,
-    lows: &[i64],
-    highs: &[i64],
-    hull_lows: &[i64],
-    hull_highs: &[i64],
-    n: usize,
-) -> Ends
-    requires passed { Passed s.now }
-    requires at_value { at ≡ places_of s.now }
-    requires n_bound { n < node_count s.now }
-    requires kept { Kept (declarations s.now) (trees_before s.now n) lows.now highs.now }
-    requires hulls { Hulls (declarations s.now) hull_lows.now hull_highs.now }
-    ensures { span result ≡ node_ends s.now n }
-{
-    let p = at.nodes + n;
-    let x = name_x(s, p);
-    let y = name_y(s, p);
-    let a = operand(lows, highs, x);
-    let b = operand(lows, highs, y);
-    match kind_at(s, p) {
-        kind::CONSTANT => only(x_at(s, p)),
-        kind::VARIABLE => domain(s, at, x),
-        kind::SLOT => slot_values(slot_ends(s, at, x)),
-        kind::ADD => plus(a, b),
-        kind::SUBTRACT => minus(a, b),
-        kind::MULTIPLY => times(a, b),
-        kind::DIV => quotients(a, b),
-        kind::MOD => remainders(a, b),
-        kind::NEGATE => negated(a),
-        kind::MIN => lesser(a, b),
-        kind::MAX => greater(a, b),
-        kind::BOOL_TO_INT => Ends { low: 0, high: 1 },
-        kind::LOOKUP => operand(hull_lows, hull_highs, x),
-        kind::SUM => summed(slot_ends(s, at, x), b),
-        _ => Ends { low: 0, high: 0 },
+    let node = table.record_at(table.at.nodes + kept.len());
+    let (x, y) = node.named();
+    let a = kept_at(kept, x as usize);
+    let b = kept_at(kept, y as usize);
+    let Ok(kind) = Kind::try_from(node.kind) else {
+        return Interval::ZERO.into();
+    };
+    match kind {
+        Kind::Constant => Interval::only(node.x).into(),
+        Kind::Variable => domain(table, x as usize).into(),
+        Kind::Slot => slot(table, x as usize).values().into(),
+        Kind::Add => a + b,
+        Kind::Subtract => a - b,
+        Kind::Multiply => a * b,
+        Kind::Div => a.quotients(),
+        Kind::Mod => b.remainders(),
+        Kind::Negate => -a,
+        Kind::Min => a.min(b).into(),
+        Kind::Max => a.max(b).into(),
+        Kind::BoolToInt => Interval { low: 0, high: 1 }.into(),
+        Kind::Lookup => kept_at(hulls, x as usize).into(),
+        Kind::Sum => slot(table, x as usize).sum(b),
+        _ => Interval::ZERO.into(),
     }
 }
 
 // The first node whose interval is beyond the limit, reached or not.
-pub fn check_bounds(s: &[u8], at: Places) -> Bounds
-    requires passed { Passed s.now }
-    requires at_value { at ≡ places_of s.now }
-    ensures { refusal_of result ≡ bounds_fault s.now }
+pub fn check_bounds(table: &CheckedTable) -> Result<(), Beyond>
+    ensures { refusal_of result ≡ bounds_fault table.now.bytes.now }
 {
-    let mut hull_lows = [0i64; 64];
-    let mut hull_highs = [0i64; 64];
-    array_hulls(s, at, &mut hull_lows, &mut hull_highs);
-    let mut lows = [0i64; MOST_RECORDS];
-    let mut highs = [0i64; MOST_RECORDS];
-    let nodes = at.nodes;
-    let count = at.constraints - nodes;
-    let mut n = 0;
-    while n < count {
-        let ends = node_ends(s, at, &lows, &highs, &hull_lows, &hull_highs, n);
-        if !within_limit(ends) {
-            return Bounds::Beyond(nodes + n);
-        }
-        let low = ends.low;
-        let high = ends.high;
-        lows[n] = low;
-        highs[n] = high;
-        n += 1;
+    let hulls = array_hulls(table);
+    let mut kept = [Interval::ZERO; MOST_RECORDS];
+    let nodes = table.at.nodes;
+    let count = table.node_count();
+    for n in 0..count {
+        let ends = node_ends(table, &hulls, &kept[..n]);
+        kept[n] = ends.within_limit().ok_or(Beyond(nodes + n))?;
     }
-    Bounds::Within
+    Ok(())
 }

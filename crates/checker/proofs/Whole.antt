@@ -8,6 +8,7 @@ use native.Mathlib.Omega.{arith}
 use borrow.Author.Tests.{leb-true, eqb-true, lt-ltb, le-ltb}
 use lib.Dec.{eqb, leb}
 use lib.ListN.{length}
+use Rattle.std.specs.Prelude.{Result}
 use Rattle.numbers.specs.Limits.{most_bytes}
 use Rattle.numbers.proofs.Tests.{and_left, and_right}
 use Rattle.table.specs.Records.{record_size, record_count}
@@ -16,7 +17,7 @@ use Rattle.answers.specs.Check.{Refusal, refuse, length_allowed, length_fault, r
 use Rattle.answers.specs.Answers as Answers
 use Rattle.answers.proofs.Faults.{or_else-none, or_else-some, or_else-none-right}
 use Rattle.nodes.specs.Known.{body_fault}
-use Rattle.verdict.specs.declared.Check.{Check}
+use Rattle.verdict.specs.declared.Fault.{Fault}
 use Rattle.verdict.specs.Results.{refusal_of, answer_of}
 use Rattle.checker.specs.Chain.{records_fault}
 
@@ -67,14 +68,14 @@ one_left bs e h = rw (← e, lt-ltb _ (record_count bs) h)
 
 -- ---- the answer
 
-answered : (bs : List ℕ) (c : Check) → refusal_of c ≡ check_fault bs → answer_of c ≡ Answers.check bs
+answered : (bs : List ℕ) (c : Result Unit Fault) → refusal_of c ≡ check_fault bs → answer_of c ≡ Answers.check bs
 unfolding answer_of Answers.check
 answered bs c e = rw (e, answer_of, Answers.check)
 
-pub sound-length : (bs : List ℕ) (c : Check) → length_allowed bs ≡ true → refusal_of c ≡ records_fault bs → answer_of c ≡ Answers.check bs
+pub sound-length : (bs : List ℕ) (c : Result Unit Fault) → length_allowed bs ≡ true → refusal_of c ≡ records_fault bs → answer_of c ≡ Answers.check bs
 unfolding check_fault check_order first length_fault records_fault body_fault
 sound-length bs c l e = answered bs c (after (ap (λ (b : Bool). cond b none (refuse 1 0)) l) (rw (or_else-none-right (rest_fault bs)) (rw or_else-assoc at e)))
 
-pub bad_length : (bs : List ℕ) (c : Check) → length_allowed bs ≡ false → refusal_of c ≡ refuse 1 0 → answer_of c ≡ Answers.check bs
+pub bad_length : (bs : List ℕ) (c : Result Unit Fault) → length_allowed bs ≡ false → refusal_of c ≡ refuse 1 0 → answer_of c ≡ Answers.check bs
 unfolding check_fault check_order first length_fault
 bad_length bs c l e = answered bs c (e ∙ sym (or_else-some _ (ap (λ (b : Bool). cond b none (refuse 1 0)) l)))

@@ -1,5 +1,6 @@
 -- What the code's verdicts of a table say: whether all that is met is within the limit, and then the bytes and whether all are 1.
-use mathlib.Core.Path.{◌≡◌, refl, ◌∙◌}
+use mathlib.Core.Path.{◌≡◌, refl, sym, subst, ◌∙◌}
+use Rattle.std.proofs.Common.{Option, Some, None}
 use Prim.Native.Nat.{ℕ, ◌-◌, ◌≤◌}
 use native.Mathlib.Omega.{arith}
 use mathlib.Core.Bool.{Bool, true, false, cond}
@@ -23,37 +24,43 @@ module _ (table : List ℕ) (ρ : Reading) (α : Assignment) where
   unfolding verdicts
   length-verdicts = rw length-map
 
-  -- It stays within the limit where every constraint does;
-  pub verdicts_of-within : (verdicts_of table ρ α).within ≡ all_met_within table ρ α (constraints table)
+  few : check_fault table ≡ none → length (verdicts table ρ α) ≤ 5000
+  few sound = omega (arith, length-verdicts, length-constraints table, few-constraints table sound)
+
+  -- What the code's verdicts are: all that is met stays within the limit,
+  pub record Found (v : Verdicts) : Type 0 where
+    pub within : all_met_within table ρ α (constraints table) ≡ true
+    -- the first bytes are the table's verdicts,
+    pub bytes : take (length (constraints table)) v.bytes ≡ verdicts table ρ α
+    -- it tells whether all are 1,
+    pub all : v.all ≡ all_one (verdicts table ρ α)
+    -- and there are 5,000 bytes.
+    pub long : check_fault table ≡ none → length v.bytes ≡ 5000
+
+  pub verdicts_found : {r : Option Verdicts} {v : Verdicts} → r ≡ verdicts_of table ρ α → r ≡ Some v → Found v
   unfolding verdicts_of
-  verdicts_of-within = by_within (all_met_within table ρ α (constraints table)) _ _ refl refl
+  verdicts_found e f = by_within (all_met_within table ρ α (constraints table)) refl (sym e ∙ f)
     where
-      by_within : (b : Bool) (r q : Verdicts) → r.within ≡ true → q.within ≡ false → (cond b r q).within ≡ b
-      by_within true r q e f = e
-      by_within false r q e f = f
+      whole : Verdicts
+      whole = record { bytes = verdicts table ρ α ++ replicate (5000 - length (verdicts table ρ α)) 0; all = all_one (verdicts table ρ α) }
 
-  module _ (within : all_met_within table ρ α (constraints table) ≡ true) where
-    -- then its first bytes are the table's verdicts,
-    pub verdicts_of-bytes : take (length (constraints table)) (verdicts_of table ρ α).bytes ≡ verdicts table ρ α
-    unfolding verdicts_of
-    verdicts_of-bytes = rw within (take_at (verdicts table ρ α) _ (length (constraints table)) length-verdicts)
+      by_within : (b : Bool) → all_met_within table ρ α (constraints table) ≡ b → {v : Verdicts} → cond b (Some whole) None ≡ Some v → Found v
+      by_within true w {v} g =
+          let same : whole ≡ v = cc in
+          subst Found same
+          (record {
+            within = w;
+            bytes = take_at (verdicts table ρ α) _ (length (constraints table)) length-verdicts;
+            all = refl;
+            long = λ sound. length-append (verdicts table ρ α) (replicate (5000 - length (verdicts table ρ α)) 0) ∙ omega (arith, few sound, length-replicate {A = ℕ} (5000 - length (verdicts table ρ α)) 0);
+          })
+      by_within false w g = absurd cc
 
-    -- and it tells whether all are 1.
-    pub verdicts_of-all : (verdicts_of table ρ α).all ≡ all_one (verdicts table ρ α)
-    unfolding verdicts_of
-    verdicts_of-all = rw within
-
-  -- There are always 5,000 bytes.
-  pub verdicts_of-long : check_fault table ≡ none → length (verdicts_of table ρ α).bytes ≡ 5000
+  -- Without verdicts it does not.
+  pub verdicts_missing : {r : Option Verdicts} → r ≡ verdicts_of table ρ α → r ≡ None → all_met_within table ρ α (constraints table) ≡ false
   unfolding verdicts_of
-  verdicts_of-long sound = by_within (all_met_within table ρ α (constraints table)) _ _ padded (length-replicate {A = ℕ} 5000 0)
+  verdicts_missing e f = by_within (all_met_within table ρ α (constraints table)) _ (sym e ∙ f)
     where
-      by_within : (b : Bool) (r q : Verdicts) → length r.bytes ≡ 5000 → length q.bytes ≡ 5000 → length (cond b r q).bytes ≡ 5000
-      by_within true r q e f = e
-      by_within false r q e f = f
-
-      few : length (verdicts table ρ α) ≤ 5000
-      few = omega (arith, length-verdicts, length-constraints table, few-constraints table sound)
-
-      padded : length (verdicts table ρ α ++ replicate (5000 - length (verdicts table ρ α)) 0) ≡ 5000
-      padded = length-append (verdicts table ρ α) (replicate (5000 - length (verdicts table ρ α)) 0) ∙ omega (arith, few, length-replicate {A = ℕ} (5000 - length (verdicts table ρ α)) 0)
+      by_within : (b : Bool) (v : Verdicts) → cond b (Some v) None ≡ None → b ≡ false
+      by_within true v g = absurd cc
+      by_within false v g = refl

@@ -26,7 +26,8 @@ use Rattle.answers.proofs.Passed.{Passed, check_fault≡none→Passed, Passed→
 use Rattle.operations.specs.declared.values.Walked.{Walked}
 use Rattle.operations.specs.Values.{of_walk, of_truth, truth_of}
 use Rattle.evaluator.specs.Walks.{Laid, truth_walked, truth_at}
-use Rattle.preparation.specs.Prepared.{Prepared}
+use Rattle.preparation.specs.declared.PreparedTable.{PreparedTable}
+use Rattle.std.proofs.Common.{Some, None}
 use Rattle.preparation.proofs.Laid.{prepared_laid, truth_at-prepared}
 use Rattle.constraints.specs.Verdicts.{walked_at, ConstraintAt, verdicts_of}
 
@@ -68,15 +69,15 @@ module _ (table : List ℕ) (sound : check_fault table ≡ none) where
   pub few-constraints : constraint_count table ≤ 5000
   few-constraints = omega (arith, Passed→SectionsOrdered table passed, few_records table passed.few_bytes)
 
-module _ {table bytes places : List ℕ} (ready : Prepared table bytes places) where
+module _ (t : PreparedTable) where
   -- The walk may be taken.
-  pub ready-laid : Laid bytes places
-  ready-laid = rw ready.copied (prepared_laid table places (check_fault≡none→Passed table ready.sound) ready.placed)
+  pub prepared-laid : Laid t.bytes.now t.places
+  prepared-laid = rw t.copied (prepared_laid t.checked.bytes.now t.places (check_fault≡none→Passed _ t.checked.sound) t.placed)
 
   -- It gives what the table says.
-  pub ready_walked : (ρ : Reading) (α : Assignment) (k : ℕ) → truth_at ρ bytes places α (replicate 16 (pos 0)) k ≡ walked_at table ρ α k
+  pub prepared-walked : (ρ : Reading) (α : Assignment) (k : ℕ) → truth_at ρ t.bytes.now t.places α (replicate 16 (pos 0)) k ≡ walked_at t.checked.bytes.now ρ α k
   unfolding walked_at
-  ready_walked ρ α k = rw ready.copied (truth_at-prepared table places (check_fault≡none→Passed table ready.sound) ready.placed ρ α k)
+  prepared-walked ρ α k = rw t.copied (truth_at-prepared t.checked.bytes.now t.places (check_fault≡none→Passed _ t.checked.sound) t.placed ρ α k)
 
 -- ---- all constraints
 
@@ -168,16 +169,16 @@ module _ (table : List ℕ) (ρ : Reading) (α : Assignment) where
 
   pub walked_beyond : {i p : ℕ} {w : Walked} → i < constraint_count table → p ≡ constraints_at table + i
       → w ≡ walked_at table ρ α (nat_abs (x_at table p)) → w.within ≡ false
-      → record { bytes = replicate 5000 0; within = false; all = false } ≡ verdicts_of table ρ α
+      → None ≡ verdicts_of table ρ α
   unfolding constraints verdicts_of
   walked_beyond {i} l q e c = rw (within-not (constraint_count table) i l (ap (λ j. within_at (nat_abs (x_at table j))) (sym q) ∙ sym (walked_within _ e) ∙ c))
 
   -- and where all are, they are the table's.
   pub walked_all : {bytes : List ℕ} {all : Bool} {i : ℕ} → Walked-so-far bytes all i → i ≡ constraint_count table
-      → record { bytes = bytes; within = true; all = all } ≡ verdicts_of table ρ α
+      → Some (record { bytes = bytes; all = all }) ≡ verdicts_of table ρ α
   unfolding constraints verdicts verdicts_of
   walked_all {bytes} {all} {i} s q =
       let within : all_met_within table ρ α (listed (constraint_count table) node_at) ≡ true = rw q at s.within in
       let counted : length (map byte_at (listed i node_at)) ≡ i = length-map (listed i node_at) byte_at ∙ length-listed i node_at in
       let whole : bytes ≡ map byte_at (listed i node_at) ++ replicate (5000 - length (map byte_at (listed i node_at))) 0 = sym (take-append-drop i bytes) ∙ ap₂ ◌++◌ s.written (s.zeros ∙ ap (λ n. replicate (5000 - n) 0) (sym counted)) in
-      rw (within, ← q) (ap₂ (λ (b : List ℕ) (a : Bool). record { bytes = b; within = true; all = a }) whole s.all_is)
+      rw (within, ← q) (ap₂ (λ (b : List ℕ) (a : Bool). Some (record { bytes = b; all = a })) whole s.all_is)

@@ -1,6 +1,6 @@
 -- What one assignment makes of a table's constraints, as the code has it.
 -- Internal: a contract behind the public ones; no public promise cites it.
-use Rattle.std.specs.Prelude.{ℕ, ◌-◌, ◌≤◌, ◌<◌, true, false, cond, List, ◌++◌, length, replicate}
+use Rattle.std.specs.Prelude.{ℕ, ◌-◌, ◌≤◌, ◌<◌, cond, List, ◌++◌, length, replicate, Option, Some, None}
 use Rattle.language.specs.Readings.{Reading}
 use Rattle.language.specs.Tables.{tree_b}
 use Rattle.language.specs.Meaning.{Assignment}
@@ -19,9 +19,9 @@ pub record ConstraintAt (table : List ℕ) (p : ℕ) : Type 0 where
   pub from : constraints_at table ≤ p
   pub before : p < rest_at table
 
--- the constraints' bytes and 0 behind them, and whether all are 1; beyond the limit only zeros, and a no
-unfoldable pub verdicts_of : List ℕ → Reading → Assignment → Verdicts
+-- the constraints' bytes and 0 behind them, and whether all are 1; beyond the limit nothing
+unfoldable pub verdicts_of : List ℕ → Reading → Assignment → Option Verdicts
 verdicts_of table ρ α =
     cond (all_met_within table ρ α (constraints table))
-    (record { bytes = verdicts table ρ α ++ replicate (5000 - length (verdicts table ρ α)) 0; within = true; all = all_one (verdicts table ρ α) })
-    (record { bytes = replicate 5000 0; within = false; all = false })
+    (Some (record { bytes = verdicts table ρ α ++ replicate (5000 - length (verdicts table ρ α)) 0; all = all_one (verdicts table ρ α) }))
+    None

@@ -1,20 +1,22 @@
 -- What the walk over the arrays keeps: the arrays passed have no fault.
 use mathlib.Core.Path.{◌≡◌, sym, ◌∙◌, ap}
-use mathlib.Core.Bool.{Bool, true, false}
+use mathlib.Core.Bool.{true, false}
 use mathlib.Core.List.{List}
 use mathlib.Core.Option.{Option, none, some, or_else}
-use Prim.Native.Nat.{ℕ, suc, ◌+◌, ◌*◌, ◌-◌, ◌≤◌, ◌<◌}
+use Prim.Native.Nat.{ℕ, suc, ◌+◌, ◌-◌, ◌≤◌, ◌<◌}
 use native.Mathlib.Nat.{add-zero}
 use native.Mathlib.Numerals.{add-one}
 use native.Mathlib.Omega.{arith}
 use lib.IntN.{nat_abs}
-use Rattle.table.specs.Records.{AR, record_size, record_count, word_at, marked, kind_at, y_at, signed}
+use Rattle.table.specs.Records.{AR, record_count, marked, kind_at, y_at}
+use Rattle.kinds.specs.declared.Sort.{Sort}
+use Rattle.kinds.specs.Entries.{declared_sort, type_of}
 use Rattle.answers.specs.Sections.{sort_of_kind, behind_array}
 use Rattle.answers.specs.Check.{Refusal, refuse, first_fault, array_fault, element_fault, arrays_fault}
 use Rattle.answers.proofs.Faults.{or_else-none, or_else-some}
 use Rattle.answers.proofs.SoundSections.{arrays-fault-on, arrays-fault-stop}
-use Rattle.verdict.specs.Results.{fault_at, is_none}
-use Rattle.verdict.proofs.Soundness.{unsound_first}
+use Rattle.verdict.specs.Results.{fault_at}
+use Rattle.declarations.proofs.ElementTests.{type-declared}
 
 module _ (bs : List ℕ) where
   -- the faults of one array's elements
@@ -47,24 +49,23 @@ module _ (bs : List ℕ) where
     pub array-refused : array_fault bs j p ≡ some 3 → refuse 3 p ≡ arrays_fault bs (record_count bs) 0 from
     array-refused e = sym (next ∙ or_else-some _ (ap (fault_at p) e))
 
-    module _ (e : array_fault bs j p ≡ none) {kind y count : ℕ} (ek : kind ≡ kind_at bs p) (ey : y ≡ word_at bs (record_size * p + 8))
-        (ec : count ≡ nat_abs (signed y)) {r : Option Refusal} (er : r ≡ of_elements kind (p + 1) count) where
-      long : count ≡ nat_abs (y_at bs p)
-      unfolding y_at
-      long = ec ∙ ap (λ (w : ℕ). nat_abs (signed w)) ey
+    module _ (e : array_fault bs j p ≡ none) {sort : Sort} {count : ℕ} (es : sort ≡ declared_sort (kind_at bs p)) (ec : count ≡ nat_abs (y_at bs p)) {r : Option Refusal}
+        (er : r ≡ first_fault (λ i. element_fault bs (type_of sort) (p + 1 + i)) (p + 1) count) where
+      wanted : type_of sort ≡ sort_of_kind (kind_at bs p)
+      wanted = ap type_of es ∙ type-declared (kind_at bs p)
 
       from_elements : of_elements (kind_at bs p) (suc p) (nat_abs (y_at bs p)) ≡ r
-      from_elements = sym (rw (← ek, ← long, ← (add-one p)) er)
+      from_elements = sym (rw (← wanted, ← ec, ← (add-one p)) er)
 
-      rest : arrays_fault bs (record_count bs) 0 from ≡ or_else r (arrays_fault bs (record_count bs - (j + 1)) (j + 1) (p + 1 + count))
+      rest : arrays_fault bs (record_count bs) 0 from ≡ or_else r (arrays_fault bs (record_count bs - (j + 1)) (j + 1) (p + (1 + count)))
       unfolding behind_array
       rest =
           next ∙ or_else-none (ap (fault_at p) e)
           ∙ ap (λ (o : Option Refusal). or_else o (arrays_fault bs (record_count bs - (j + 1)) (suc j) (suc p + nat_abs (y_at bs p)))) from_elements
-          ∙ rw (← long, ← (add-one j), ← (add-one p))
+          ∙ ap (λ (q : ℕ). or_else r (arrays_fault bs (record_count bs - (j + 1)) (suc j) q)) {y = p + (1 + count)} (omega (arith, ec)) ∙ rw (← (add-one j))
 
-      pub elements-refused : {b : Bool} → b ≡ is_none r → b ≡ false → r ≡ arrays_fault bs (record_count bs) 0 from
-      elements-refused f g = sym (rest ∙ unsound_first r _ f g)
+      pub elements-refused : {f : Refusal} → r ≡ some f → some f ≡ arrays_fault bs (record_count bs) 0 from
+      elements-refused q = sym (rest ∙ or_else-some _ q)
 
-      pub one-passed : r ≡ none → Passed from (j + 1) (p + 1 + count)
+      pub one-passed : r ≡ none → Passed from (j + 1) (p + (1 + count))
       one-passed f = record { behind = omega (arith, w.behind); same = rest ∙ or_else-none f }

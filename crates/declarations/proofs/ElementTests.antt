@@ -1,99 +1,89 @@
 -- The tests of the code on an element are those of document 01.
-use mathlib.Core.Path.{◌≡◌, refl, sym}
-use mathlib.Core.Bool.{Bool, true, false, cond, not, ◌&&◌, ◌||◌}
+use mathlib.Core.Path.{◌≡◌, refl, ap, ◌∙◌}
+use mathlib.Core.Bool.{Bool, true, false, cond, ◌&&◌}
 use mathlib.Core.List.{List}
 use mathlib.Core.Option.{none, some, or_else}
-use Prim.Native.Nat.{ℕ, zero, suc, ◌+◌, ◌*◌, ◌≤◌, ◌<◌}
-use native.Mathlib.Omega.{arith}
-use borrow.Author.Tests.{eq-eqb, ne_eqb, lt-ltb, le-ltb}
-use lib.Dec.{eqb, leb, ltb}
+use Prim.Native.Nat.{ℕ, ◌+◌}
+use borrow.Author.Tests.{eq-eqb, ne_eqb}
+use denote.Enum.Bare.{sameb}
+use lib.Dec.{eqb}
+use lib.IntN.{nat_abs}
 use Rattle.numbers.proofs.Tests.{T→≡true}
 use Rattle.language.specs.Syntax.{boolean, integer}
-use Rattle.table.specs.Records.{EL, record_size, word_at, marked, kind_at, aux_at, x_at, y_at, signed}
+use Rattle.table.specs.Records.{EL, marked, kind_at, x_at}
+use Rattle.table.specs.Parts.{parts_of}
+use Rattle.table.specs.declared.Record.{Record}
+use Rattle.kinds.specs.contracts.Sort.{the_type}
+use Rattle.kinds.specs.declared.Sort.{Sort}
+use Rattle.kinds.specs.declared.Sort.TheVariants.{Boolean, Integer}
+use Rattle.kinds.specs.Entries.{declared_sort, type_of}
 use Rattle.answers.specs.Sections.{sort_of_kind, variables_at, variable_count}
 use Rattle.answers.specs.Check.{unless, is_zero, is_kind, names, same_sort, variable_sort, constant_allowed, element_fault}
 use Rattle.answers.proofs.Faults.{none-or_else, none-unless}
-use Rattle.answers.proofs.SignedWords.{zero_word, bit_word, names-word, named-word}
-use Rattle.declarations.specs.Elements.{Variables}
 
--- the fields of record p, as the code has read them
-pub record Fields (bs : List ℕ) (p k a x y : ℕ) : Type 0 where
-  pub kind : k ≡ kind_at bs p
-  pub aux : a ≡ aux_at bs p
-  pub first : x ≡ word_at bs (record_size * p + 4)
-  pub second : y ≡ word_at bs (record_size * p + 8)
-
-pub fields : (bs : List ℕ) (p : ℕ) {k a x y : ℕ} → k ≡ kind_at bs p → a ≡ aux_at bs p → x ≡ word_at bs (record_size * p + 4) → y ≡ word_at bs (record_size * p + 8)
-    → Fields bs p k a x y
-fields bs p k a x y = record { kind = k; aux = a; first = x; second = y }
-
-few_variables : {bs : List ℕ} (n : ℕ) → Variables bs n → n ≤ 5_000
-few_variables zero v = omega arith
-few_variables (suc n) v = omega (arith, v.within n (omega arith), v.few)
-
-same_kind : (a s : ℕ) → ((eqb a 0 && eqb s 0) || (not (eqb a 0) && not (eqb s 0))) ≡ same_sort (sort_of_kind a) (sort_of_kind s)
-unfolding same_sort sort_of_kind
-same_kind a s = go (eqb a 0) (eqb s 0)
-  where
-    go : (b c : Bool) → ((b && c) || (not b && not c)) ≡ same_sort (cond b boolean integer) (cond c boolean integer)
-    go true true = refl
-    go true false = refl
-    go false true = refl
-    go false false = refl
-
-module _ (bs : List ℕ) (s p : ℕ) where
-  pub element_misplaced : marked bs EL p ≡ false → element_fault bs (sort_of_kind s) p ≡ some 2
+module _ (bs : List ℕ) (t : Sort) (p : ℕ) where
+  pub element_misplaced : marked bs EL p ≡ false → element_fault bs (type_of t) p ≡ some 2
   unfolding element_fault unless or_else
   element_misplaced m = rw m
 
   -- no fault: it has the mark
-  pub element_marked : element_fault bs (sort_of_kind s) p ≡ none → marked bs EL p ≡ true
+  pub element_marked : element_fault bs (type_of t) p ≡ none → marked bs EL p ≡ true
   unfolding element_fault
   element_marked e = T→≡true (marked bs EL p) (none-unless 2 _ (none-or_else _ _ e).0)
 
-  module _ {k a x y : ℕ} (f : Fields bs p k a x y) (m : marked bs EL p ≡ true) where
-    abbrev allowed : Bool
-    allowed = leb k 1 && eqb a 0 && eqb y 0 && (not (eqb s 0) || (not (eqb k 0) || leb x 1))
+-- two types compared
+pub sorts_compared : (a b : Sort) → sameb the_type a b ≡ same_sort (type_of a) (type_of b)
+unfolding same_sort
+sorts_compared Boolean Boolean = refl
+sorts_compared Boolean Integer = refl
+sorts_compared Integer Boolean = refl
+sorts_compared Integer Integer = refl
 
-    constant-test : (not (eqb s 0) || (not (eqb k 0) || leb x 1)) ≡ constant_allowed (sort_of_kind s) k (signed x)
-    unfolding sort_of_kind constant_allowed
-    constant-test = go (eqb s 0)
-      where
-        go : (b : Bool) → (not b || (not (eqb k 0) || leb x 1)) ≡ constant_allowed (cond b boolean integer) k (signed x)
-        go true = rw (bit_word x)
-        go false = refl
+-- the type of a declared thing
+pub type-declared : (k : ℕ) → type_of (declared_sort k) ≡ sort_of_kind k
+unfolding sort_of_kind
+type-declared k = go (eqb k 0)
+  where
+    go : (b : Bool) → type_of (cond b Boolean Integer) ≡ cond b boolean integer
+    go true = refl
+    go false = refl
 
-    allowed-test : (is_kind (kind_at bs p) && eqb (aux_at bs p) 0 && is_zero (y_at bs p) && constant_allowed (sort_of_kind s) (kind_at bs p) (x_at bs p)) ≡ allowed
-    unfolding is_kind x_at y_at
-    allowed-test = rw (constant-test, ← (zero_word y), f.kind, f.aux, f.first, f.second)
+module _ (bs : List ℕ) (t : Sort) (p : ℕ) {r : Record} (er : r ≡ parts_of bs p) (m : marked bs EL p ≡ true) where
+  abbrev test : Record → Bool
+  test q = is_kind q.kind && eqb q.aux 0 && is_zero q.y && constant_allowed (type_of t) q.kind q.x
 
-    pub element_not_allowed : allowed ≡ false → element_fault bs (sort_of_kind s) p ≡ some 3
+  pub element_not_allowed : test r ≡ false → element_fault bs (type_of t) p ≡ some 3
+  unfolding element_fault unless or_else
+  element_not_allowed e = let f : test (parts_of bs p) ≡ false = rw er at e in rw (m, f)
+
+  module _ (e : test r ≡ true) where
+    allowed : test (parts_of bs p) ≡ true
+    allowed = rw er at e
+
+    pub element_constant : r.kind ≡ 0 → element_fault bs (type_of t) p ≡ none
     unfolding element_fault unless or_else
-    element_not_allowed e = rw (m, allowed-test, e)
+    element_constant z = let k : kind_at bs p ≡ 0 = rw er at z in rw (m, allowed, eq-eqb (kind_at bs p) 0 k)
 
-    pub element_constant : allowed ≡ true → k ≡ 0 → element_fault bs (sort_of_kind s) p ≡ none
-    unfolding element_fault unless or_else
-    element_constant e z = rw (m, allowed-test, e, ← f.kind, eq-eqb k 0 z)
+    module _ {n : ℕ} (counted : n ≡ variable_count bs) (z : ¬ (r.kind ≡ 0)) where
+      variable : eqb (kind_at bs p) 0 ≡ false
+      variable = let k : ¬ (kind_at bs p ≡ 0) = rw er at z in ne_eqb (kind_at bs p) 0 k
 
-    module _ {n : ℕ} (v : Variables bs n) (e : allowed ≡ true) (z : ¬ (k ≡ 0)) where
-      names-test : names (variable_count bs) (x_at bs p) ≡ ltb x n
-      unfolding x_at
-      names-test = rw (← v.counted, ← f.first) (names-word n x (omega (arith, few_variables n v)))
-
-      pub element_names_nothing : n ≤ x → element_fault bs (sort_of_kind s) p ≡ some 4
+      pub element_names_nothing : names n r.x ≡ false → element_fault bs (type_of t) p ≡ some 4
       unfolding element_fault unless or_else
-      element_names_nothing h = rw (m, allowed-test, e, ← f.kind, ne_eqb k 0 z, names-test, le-ltb x n h)
+      element_names_nothing h = let f : names (variable_count bs) (x_at bs p) ≡ false = rw (counted, er) at h in rw (m, allowed, variable, f)
 
-      type_test : {w : ℕ} → x < n → w ≡ kind_at bs (1 + x)
-          → same_sort (variable_sort bs (x_at bs p)) (sort_of_kind s) ≡ ((eqb w 0 && eqb s 0) || (not (eqb w 0) && not (eqb s 0)))
-      unfolding variable_sort variables_at x_at
-      type_test {w} h q = rw (← f.first, named-word n x (omega (arith, few_variables n v)) h, ← q) (sym (same_kind w s))
+      module _ (h : names n r.x ≡ true) {v : ℕ} (ev : v ≡ nat_abs r.x) {named : Sort} (ek : named ≡ declared_sort (kind_at bs (1 + v))) where
+        names-one : names (variable_count bs) (x_at bs p) ≡ true
+        names-one = rw (counted, er) at h
 
-      module _ {w : ℕ} (h : x < n) (q : w ≡ kind_at bs (1 + x)) where
-        pub element_wrong_type : ((eqb w 0 && eqb s 0) || (not (eqb w 0) && not (eqb s 0))) ≡ false → element_fault bs (sort_of_kind s) p ≡ some 5
+        named_is : type_of named ≡ variable_sort bs (x_at bs p)
+        unfolding variable_sort variables_at
+        named_is = ap type_of ek ∙ type-declared (kind_at bs (1 + v)) ∙ rw (ev, er)
+
+        pub element_wrong_type : sameb the_type named t ≡ false → element_fault bs (type_of t) p ≡ some 5
         unfolding element_fault unless or_else
-        element_wrong_type g = rw (m, allowed-test, e, ← f.kind, ne_eqb k 0 z, names-test, lt-ltb x n h, type_test h q, g)
+        element_wrong_type q = rw (m, allowed, variable, names-one, ← named_is, ← (sorts_compared named t), q)
 
-        pub element_sound : ((eqb w 0 && eqb s 0) || (not (eqb w 0) && not (eqb s 0))) ≡ true → element_fault bs (sort_of_kind s) p ≡ none
+        pub element_sound : sameb the_type named t ≡ true → element_fault bs (type_of t) p ≡ none
         unfolding element_fault unless or_else
-        element_sound g = rw (m, allowed-test, e, ← f.kind, ne_eqb k 0 z, names-test, lt-ltb x n h, type_test h q, g)
+        element_sound q = rw (m, allowed, variable, names-one, ← named_is, ← (sorts_compared named t), q)

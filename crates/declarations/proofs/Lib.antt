@@ -1,3 +1,2 @@
 pub mod ArrayWalk
 pub mod ElementTests
-pub mod Tests

@@ -1,198 +1,223 @@
 // HD, VR, SL, AR and EL: each record by itself, and the first fault of each section.
 #![tactic(auto)]
 
-ghost use Rattle.std.specs.Prelude.{◌≡◌, ℕ, ◌+◌, ◌%◌, ◌≤◌, ◌<◌, length};
-ghost use Rattle.table.specs.Records.{record_size, record_count, kind_at, signed};
-ghost use Rattle.answers.specs.Sections.{sort_of_kind, variables_at, variable_count};
-ghost use Rattle.answers.specs.Check.{near as isNear};
-ghost use Rattle.answers.specs.Check.{unless, first_fault, header_fault, domain_allowed, variable_fault, slot_fault, array_fault, element_fault, arrays_fault};
+ghost use Rattle.std.specs.Prelude.{◌≡◌, ◌+◌, ◌≤◌, ◌<◌, ◌&&◌, eqb, leb, pos};
+ghost use Rattle.numbers.specs.Whole.{eq_z, between};
+ghost use Rattle.language.specs.Meaning.{count as valueCount};
+ghost use Rattle.table.specs.Records.{record_count, kind_at};
+ghost use Rattle.kinds.specs.Entries.{declared_sort, type_of};
+ghost use Rattle.answers.specs.Check as Check;
+ghost use Rattle.answers.specs.Check.{unless, is_zero, constant_allowed, first_fault, header_fault, variable_fault, slot_fault, array_fault, element_fault, arrays_fault};
 ghost use Rattle.sections.specs.Within.{Section};
 ghost use Rattle.verdict.specs.Results.{refusal_of, fault_at};
 ghost use Rattle.declarations.specs.Elements.{Variables};
 
-use table::{Mark, VariableNumber};
-use verdict::Check;
+use kinds::Sort;
+use table::{Mark, Record, VariableNumber};
+use verdict::Fault;
 
 // "HD: kind 1, x = number of records, this one included"
-pub fn header(table: &[u8]) -> Check
+#[tactic(auto, unfolding(answers::specs::Check::is_zero, numbers::specs::Whole::eq_z))]
+fn header_allowed(head: Record, count: usize) -> bool
+    requires { count ≤ 5000 }
+    ensures { result ≡ (eqb head.kind 1 && eqb head.aux 0 && eq_z head.x (pos count) && is_zero head.y) }
+{
+    head.kind == 1 && head.aux == 0 && head.x == count as i32 && head.y == 0
+}
+
+pub fn header(table: &[u8]) -> Result<(), Fault>
     requires table_nonzero { 0 < record_count table.now }
     requires table_bound { record_count table.now ≤ 5000 }
     ensures { refusal_of result ≡ first_fault (λ i. header_fault table.now 0) 0 1 }
 {
     if !table::marked(table, Mark::Head, 0) {
-        return Check::Misplaced(0);
+        return Err(Fault::Misplaced(0));
     }
-    let count = table::record_count(table);
-    let kind = table::kind_at(table, 0);
-    let aux = table::aux_at(table, 0);
-    let x = table::x_bits(table, 0) as usize;
-    let y = table::y_bits(table, 0);
-    if (kind == 1) & (aux == 0) & (x == count) & (y == 0) {
-        Check::Sound
+    if header_allowed(table::record_at(table, 0), table::record_count(table)) {
+        Ok(())
     } else {
-        Check::NotAllowed(0)
+        Err(Fault::NotAllowed(0))
     }
 }
 
 // "bool is 0..1; integer needs x ≤ y"
-fn domain_allowed(kind: u8, x: u32, y: u32) -> bool
-    ensures { result ≡ domain_allowed kind (signed x) (signed y) }
+#[tactic(auto, unfolding(answers::specs::Check::domain_allowed, answers::specs::Check::is_zero, numbers::specs::Whole::eq_z))]
+fn domain_allowed(kind: u8, x: i32, y: i32) -> bool
+    ensures { result ≡ Check.domain_allowed kind x y }
 {
-    if kind == 0 {
-        (x == 0) & (y == 1)
-    } else {
-        table::lifted(x) <= table::lifted(y)
-    }
+    if kind == 0 { x == 0 && y == 1 } else { x <= y }
 }
 
+#[tactic(auto, unfolding(answers::specs::Check::variable_fault, answers::specs::Check::is_kind))]
 fn variable_allowed(table: &[u8], i: usize, p: usize) -> bool
     requires { p < record_count table.now }
     ensures { unless 3 result ≡ variable_fault table.now i p }
 {
-    let kind = table::kind_at(table, p);
-    let aux = table::aux_at(table, p);
-    let x = table::x_bits(table, p);
-    let y = table::y_bits(table, p);
-    (i < 256) & (kind <= 1) & (aux == 0) & domain_allowed(kind, x, y)
+    let variable = table::record_at(table, p);
+    i < 256
+        && variable.kind <= 1
+        && variable.aux == 0
+        && domain_allowed(variable.kind, variable.x, variable.y)
 }
 
-pub fn variables(table: &[u8], count: usize) -> Check
+pub fn variables(table: &[u8], count: usize) -> Result<(), Fault>
     requires { Section table.now 1 count }
     ensures { refusal_of result ≡ first_fault (λ i. variable_fault table.now i (1 + i)) 1 count }
 {
     for i in 0..count {
         let p = 1 + i;
         if !variable_allowed(table, i, p) {
-            return Check::NotAllowed(p as u32);
+            return Err(Fault::NotAllowed(p as u32));
         }
     }
-    Check::Sound
+    Ok(())
 }
 
 // Within ±1,000,000,000.
-fn near(bits: u32) -> bool
-    ensures { result ≡ isNear (signed bits) }
+#[tactic(auto, unfolding(answers::specs::Check::near))]
+fn near(x: i32) -> bool
+    ensures { result ≡ Check.near x }
 {
-    let z = table::lifted(bits);
-    (1_147_483_648 <= z) & (z <= 3_147_483_648)
+    x.unsigned_abs() <= 1_000_000_000
 }
 
+// "at most 10,000 values, empty if y < x"
+fn few_values(x: i32, y: i32) -> bool
+    ensures { result ≡ leb (valueCount (record { low = x; high = y })) 10_000 }
+{
+    i64::from(y) - i64::from(x) < 10_000
+}
+
+#[tactic(auto, unfolding(answers::specs::Check::slot_fault, answers::specs::Sections::slot_of))]
 fn slot_allowed(table: &[u8], i: usize, p: usize) -> bool
     requires { p < record_count table.now }
     ensures { unless 3 result ≡ slot_fault table.now i p }
 {
-    let kind = table::kind_at(table, p);
-    let aux = table::aux_at(table, p);
-    let x = table::x_bits(table, p);
-    let y = table::y_bits(table, p);
-    let few = (table::lifted(y) as u64) < table::lifted(x) as u64 + 10_000;
-    (i < 16) & (kind == 0) & (aux == 0) & near(x) & near(y) & few
+    let slot = table::record_at(table, p);
+    i < 16
+        && slot.kind == 0
+        && slot.aux == 0
+        && near(slot.x)
+        && near(slot.y)
+        && few_values(slot.x, slot.y)
 }
 
-pub fn slots(table: &[u8], from: usize, count: usize) -> Check
+pub fn slots(table: &[u8], from: usize, count: usize) -> Result<(), Fault>
     requires { Section table.now from count }
     ensures { refusal_of result ≡ first_fault (λ i. slot_fault table.now i (from + i)) from count }
 {
     for i in 0..count {
         let p = from + i;
         if !slot_allowed(table, i, p) {
-            return Check::NotAllowed(p as u32);
+            return Err(Fault::NotAllowed(p as u32));
         }
     }
-    Check::Sound
+    Ok(())
 }
 
+// "1 to 1,024"
+#[tactic(auto, unfolding(numbers::specs::Whole::between))]
+fn length_allowed(y: i32) -> bool
+    ensures { result ≡ between (pos 1) (pos 1024) y }
+{
+    (1..=1024).contains(&y)
+}
+
+#[tactic(auto, unfolding(answers::specs::Check::array_fault, answers::specs::Check::is_kind))]
 fn array_allowed(table: &[u8], j: usize, p: usize) -> bool
     requires { p < record_count table.now }
     ensures { unless 3 result ≡ array_fault table.now j p }
 {
-    let kind = table::kind_at(table, p);
-    let aux = table::aux_at(table, p);
-    let x = table::x_bits(table, p);
-    let y = table::y_bits(table, p);
-    (j < 64) & (kind <= 1) & (aux == 0) & near(x) & ((1 <= y) & (y <= 1024))
+    let array = table::record_at(table, p);
+    j < 64 && array.kind <= 1 && array.aux == 0 && near(array.x) && length_allowed(array.y)
 }
 
-// The kind of a declared variable: 0 bool, 1 integer.
-fn variable_kind(table: &[u8], v: VariableNumber) -> u8
+// The type of a declared variable.
+fn variable_sort(table: &[u8], v: VariableNumber) -> Sort
     requires { 1 + v.0 < record_count table.now }
-    ensures { result ≡ kind_at table.now (1 + v.0) }
+    ensures { result ≡ declared_sort (kind_at table.now (1 + v.0)) }
 {
-    let i = v.0 as usize;
-    table::kind_at(table, 1 + i)
+    Sort::declared(table::record_at(table, 1 + v.0 as usize).kind)
+}
+
+// "constant x (0 or 1 in a bool array)", or any variable number.
+#[tactic(auto, unfolding(answers::specs::Check::is_kind, answers::specs::Check::is_zero, answers::specs::Check::constant_allowed, answers::specs::Check::is_bit, numbers::specs::Whole::eq_z))]
+fn element_allowed(element: Record, sort: Sort) -> bool
+    ensures { result ≡ (Check.is_kind element.kind && eqb element.aux 0 && is_zero element.y && constant_allowed (type_of sort) element.kind element.x) }
+{
+    let is_bit = element.x == 0 || element.x == 1;
+    element.kind <= 1
+        && element.aux == 0
+        && element.y == 0
+        && (sort == Sort::Integer || element.kind != 0 || is_bit)
 }
 
 // One record of an array of a type.
-fn element(table: &[u8], sort: u8, p: usize, variables: usize) -> Check
+fn element(table: &[u8], sort: Sort, p: usize, variables: u16) -> Result<(), Fault>
     requires p_bound { p ≤ record_count table.now }
     requires variables { Variables table.now variables }
-    ensures { refusal_of result ≡ fault_at p (element_fault table.now (sort_of_kind sort) p) }
+    ensures { refusal_of result ≡ fault_at p (element_fault table.now (type_of sort) p) }
 {
     if table::record_count(table) <= p {
-        return Check::Misplaced(p as u32);
+        return Err(Fault::Misplaced(p as u32));
     }
     if !table::marked(table, Mark::Element, p) {
-        return Check::Misplaced(p as u32);
+        return Err(Fault::Misplaced(p as u32));
     }
-    let kind = table::kind_at(table, p);
-    let aux = table::aux_at(table, p);
-    let x = table::x_bits(table, p);
-    let y = table::y_bits(table, p);
-    if !((kind <= 1) & (aux == 0) & (y == 0) & ((sort != 0) | ((kind != 0) | (x <= 1)))) {
-        return Check::NotAllowed(p as u32);
+    let element = table::record_at(table, p);
+    if !element_allowed(element, sort) {
+        return Err(Fault::NotAllowed(p as u32));
     }
-    if kind == 0 {
-        return Check::Sound;
+    if element.kind == 0 {
+        return Ok(());
     }
-    let v = x as usize;
-    if variables <= v {
-        return Check::NamesNothing(p as u32);
+    if !kinds::names(variables, element.x) {
+        return Err(Fault::NamesNothing(p as u32));
     }
-    let named = variable_kind(table, VariableNumber(x));
-    if ((named == 0) & (sort == 0)) | ((named != 0) & (sort != 0)) {
-        Check::Sound
+    let named = variable_sort(table, VariableNumber(element.x.unsigned_abs()));
+    if named == sort {
+        Ok(())
     } else {
-        Check::WrongType(p as u32)
+        Err(Fault::WrongType(p as u32))
     }
 }
 
 // The elements of an array of a type, from record `from` on.
-fn elements(table: &[u8], sort: u8, from: usize, count: usize, variables: usize) -> Check
+fn elements(
+    table: &[u8],
+    sort: Sort,
+    from: usize,
+    count: usize,
+    variables: u16,
+) -> Result<(), Fault>
     requires from_bound { from ≤ record_count table.now }
     requires variables { Variables table.now variables }
-    ensures { refusal_of result ≡ first_fault (λ i. element_fault table.now (sort_of_kind sort) (from + i)) from count }
+    ensures { refusal_of result ≡ first_fault (λ i. element_fault table.now (type_of sort) (from + i)) from count }
 {
     for i in 0..count {
-        let c = element(table, sort, from + i, variables);
-        if !verdict::is_sound(c) {
-            return c;
-        }
+        element(table, sort, from + i, variables)?;
     }
-    Check::Sound
+    Ok(())
 }
 
-pub fn arrays(table: &[u8], from: usize, variables: usize) -> Check
+pub fn arrays(table: &[u8], from: usize, variables: usize) -> Result<(), Fault>
     requires { Variables table.now variables }
     ensures { refusal_of result ≡ arrays_fault table.now (record_count table.now) 0 from }
 {
     let n = table::record_count(table);
+    let variables = variables as u16;
     let mut j = 0;
     let mut p = from;
-    while p < n {
-        if !table::marked(table, Mark::Array, p) {
-            return Check::Sound;
-        }
+    // Kept: a `for` has no range to go over, since only the record of an array tells where the next one begins.
+    while p < n && table::marked(table, Mark::Array, p) {
         if !array_allowed(table, j, p) {
-            return Check::NotAllowed(p as u32);
+            return Err(Fault::NotAllowed(p as u32));
         }
-        let kind = table::kind_at(table, p);
-        let count = table::magnitude(table::y_bits(table, p));
-        let c = elements(table, kind, p + 1, count, variables);
-        if !verdict::is_sound(c) {
-            return c;
-        }
+        let array = table::record_at(table, p);
+        let count = array.y.unsigned_abs() as usize;
+        elements(table, Sort::declared(array.kind), p + 1, count, variables)?;
         j += 1;
-        p = p + 1 + count;
+        p += 1 + count;
     }
-    Check::Sound
+    Ok(())
 }

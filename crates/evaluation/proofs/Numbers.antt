@@ -1,27 +1,18 @@
--- Number, record and totals tell an evaluation's answer.
+-- Number and record of what an evaluation gives are those of its answer.
 use mathlib.Core.Path.{◌≡◌, refl}
-use Prim.Native.Nat.{ℕ}
-use mathlib.Core.Bool.{Bool, false}
-use Rattle.answers.specs.Answers.{Answer}
-use Rattle.verdict.specs.declared.Check.{Check}
-use Rattle.verdict.specs.Results as Verdict
-use Rattle.verdict.proofs.Numbers.{numbers_only, answer-numbers_only}
-use Rattle.evaluation.specs.declared.Evaluation.{Evaluation}
-use Rattle.evaluation.specs.Results.{answer_of}
+use Rattle.std.specs.Prelude.{Result, Ok, Err}
+use Rattle.answers.specs.Answers.{done, refused}
+use Rattle.verdict.specs.Results.{number_in, record_in}
+use Rattle.evaluation.specs.declared.Refusal.{Refusal}
+use Rattle.evaluation.specs.declared.Totals.{Totals}
+use Rattle.evaluation.specs.Results.{number_and_record, answer_of}
 
--- the totals of an answer
-abbrev pub HasTotals : Answer → ℕ → ℕ → Bool → Type 0
-HasTotals a steps written all = (steps ≡ a.steps) × ((written ≡ a.length_written) × (all ≡ a.all_true))
+pub number_of : (r : Result Totals Refusal) → number_in number_and_record r ≡ (answer_of r).number
+unfolding answer_of done refused
+number_of (Ok totals) = refl
+number_of (Err refusal) = refl
 
-numbers_only-totals : (a : Answer) {number at : ℕ} → a ≡ numbers_only number at → HasTotals a 0 0 false
-numbers_only-totals a e = rw e (refl, (refl, refl))
-
--- A check takes no steps, writes nothing, and says nothing of verdicts.
-pub check-totals : (c : Check) → HasTotals (Verdict.answer_of c) 0 0 false
-check-totals c = numbers_only-totals (Verdict.answer_of c) (answer-numbers_only c)
-
--- The answer from its parts.
-pub answer-from : (e : Evaluation) {number at steps written : ℕ} {all : Bool} → number ≡ (answer_of e).number → at ≡ (answer_of e).at
-    → HasTotals (answer_of e) steps written all
-    → record { number = number; at = at; steps = steps; length_written = written; all_true = all } ≡ answer_of e
-answer-from e p q t = rw (p, q, t.0, t.1.0, t.1.1)
+pub record_of : (r : Result Totals Refusal) → record_in number_and_record r ≡ (answer_of r).at
+unfolding answer_of done refused
+record_of (Ok totals) = refl
+record_of (Err refusal) = refl

@@ -19,6 +19,7 @@ use Rattle.operations.specs.declared.sums.Total.{Total}
 use Rattle.operations.specs.Values.{of_integer, of_truth, of_walk, limited_to}
 use Rattle.operations.specs.Truths.{connected}
 use Rattle.operations.specs.Sums.{total_of, total_value, plus_to}
+use Rattle.evaluator.specs.declared.places.TablePlaces.{TablePlaces}
 use Rattle.evaluator.specs.Walks.{declared, trees_of, setting_of, integer_walked, truth_walked, integer_at, truth_at, sum_at, quantified_at}
 use Rattle.evaluator.proofs.Walking.{both-truths}
 
@@ -53,7 +54,7 @@ limited-total true (some z) = refl
 limited-total true none = refl
 limited-total false v = refl
 
-module _ (ρ : readings.Reading) (bs places : List ℕ) (α : Assignment) (values : List ℤ) (s a : ℕ) where
+module _ (ρ : readings.Reading) (bs : List ℕ) (places : TablePlaces) (α : Assignment) (values : List ℤ) (s a : ℕ) where
   -- the sum of the first k values
   unfoldable pub total_to : ℕ → Total
   total_to k =
@@ -82,7 +83,7 @@ module _ (ρ : readings.Reading) (bs places : List ℕ) (α : Assignment) (value
 
 -- ---- quantifiers
 
-module _ (ρ : readings.Reading) (bs places : List ℕ) (α : Assignment) (values : List ℤ) (q : syntax.Quantifier) (s a : ℕ) where
+module _ (ρ : readings.Reading) (bs : List ℕ) (places : TablePlaces) (α : Assignment) (values : List ℤ) (q : syntax.Quantifier) (s a : ℕ) where
   -- the quantifier over the first k values
   unfoldable pub joint_to : ℕ → Walked
   joint_to k =

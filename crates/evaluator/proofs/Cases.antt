@@ -22,9 +22,10 @@ use Rattle.evaluator.specs.declared.decoded.TruthNode.{TruthNode}
 use Rattle.evaluator.specs.declared.decoded.TruthNode.TheVariants as truth
 use Rattle.operations.specs.Values.{integer_of, of_walk, limited_to}
 use Rattle.operations.specs.Integers.{arithmetic_of, division_of, integers, negated, numbered}
-use Rattle.operations.specs.Truths.{connective_of, compared, connected, opposed}
+use Rattle.operations.specs.Truths.{comparison_of, connective_of, compared, connected, opposed}
 use Rattle.evaluator.specs.Nodes.{integer_case, truth_case}
-use Rattle.evaluator.specs.Walks.{node_count, declared, row_at, trees_of, Laid, setting_of, integer_walked, truth_walked, looked_up, looked_up_truth, integer_at, truth_at, sum_at, quantified_at}
+use Rattle.evaluator.specs.declared.places.TablePlaces.{TablePlaces}
+use Rattle.evaluator.specs.Walks.{declared, row_at, trees_of, Laid, setting_of, quantifier_of, integer_walked, truth_walked, looked_up, looked_up_truth, integer_at, truth_at, sum_at, quantified_at}
 use Rattle.answers.proofs.Listed.{length-listed, get_d_listed}
 use Rattle.evaluator.proofs.Walking.{walked_arith, walked_divide, walked_negate, walked_number, walked_lookup, walked_connect, walked_not, walked_compare, walked_lookup_b}
 
@@ -46,14 +47,10 @@ abbrev pub TruthBelow : ℕ → TruthNode → Type 0
 TruthBelow n (truth.Constant v) = Unit {0}
 TruthBelow n (truth.Variable v) = Unit {0}
 TruthBelow n (truth.Connected op a b) = (a.0 < n) × (b.0 < n)
-TruthBelow n (truth.Equal a b) = (a.0 < n) × (b.0 < n)
-TruthBelow n (truth.Unequal a b) = (a.0 < n) × (b.0 < n)
-TruthBelow n (truth.AtMost a b) = (a.0 < n) × (b.0 < n)
-TruthBelow n (truth.Below a b) = (a.0 < n) × (b.0 < n)
+TruthBelow n (truth.Compared op a b) = (a.0 < n) × (b.0 < n)
 TruthBelow n (truth.Lookup A a) = a.0 < n
 TruthBelow n (truth.Not a) = a.0 < n
-TruthBelow n (truth.Exists s a) = a.0 < n
-TruthBelow n (truth.Forall s a) = a.0 < n
+TruthBelow n (truth.Quantified q s a) = a.0 < n
 
 integer-below : (n : ℕ) (r : Row) → NamesBelow n r → IntegerBelow n (integer_case r)
 unfolding integer_case
@@ -107,7 +104,7 @@ truth-below n (sum_row s a) h = tt
 
 -- ---- the walk over a case
 
-module _ (ρ : readings.Reading) (bs places : List ℕ) (α : Assignment) (values : List ℤ) where
+module _ (ρ : readings.Reading) (bs : List ℕ) (places : TablePlaces) (α : Assignment) (values : List ℤ) where
   abbrev pub integer_of_case : IntegerNode → Walked
   integer_of_case (integer.Constant v) = limited_to true (integer_of v)
   integer_of_case (integer.Variable v) = limited_to true (some (value_of α v.0))
@@ -125,12 +122,8 @@ module _ (ρ : readings.Reading) (bs places : List ℕ) (α : Assignment) (value
   truth_of_case (truth.Lookup A i) = looked_up_truth ρ (declared bs places) α A.0 (integer_at ρ bs places α values i.0)
   truth_of_case (truth.Connected op a b) = connected ρ (connective_of op) (truth_at ρ bs places α values a.0) (truth_at ρ bs places α values b.0)
   truth_of_case (truth.Not a) = opposed (truth_at ρ bs places α values a.0)
-  truth_of_case (truth.Equal a b) = compared ρ syntax.equal (integer_at ρ bs places α values a.0) (integer_at ρ bs places α values b.0)
-  truth_of_case (truth.Unequal a b) = compared ρ syntax.unequal (integer_at ρ bs places α values a.0) (integer_at ρ bs places α values b.0)
-  truth_of_case (truth.AtMost a b) = compared ρ syntax.at_most (integer_at ρ bs places α values a.0) (integer_at ρ bs places α values b.0)
-  truth_of_case (truth.Below a b) = compared ρ syntax.below (integer_at ρ bs places α values a.0) (integer_at ρ bs places α values b.0)
-  truth_of_case (truth.Exists s a) = quantified_at ρ bs places α values syntax.exists s.0 a.0
-  truth_of_case (truth.Forall s a) = quantified_at ρ bs places α values syntax.forall s.0 a.0
+  truth_of_case (truth.Compared op a b) = compared ρ (comparison_of op) (integer_at ρ bs places α values a.0) (integer_at ρ bs places α values b.0)
+  truth_of_case (truth.Quantified q s a) = quantified_at ρ bs places α values (quantifier_of q) s.0 a.0
 
   -- A filled row, walked as an integer, is its case.
   filled-integer : (r : Row) → integer_walked ρ (declared bs places) α (as_i (fill (trees_of bs places) r)) (setting_of values) ≡ integer_of_case (integer_case r)
@@ -184,26 +177,26 @@ module _ (ρ : readings.Reading) (bs places : List ℕ) (α : Assignment) (value
   filled-truth (sum_row s a) = refl
 
   -- A node's tree is its row, filled.
-  node-filled : (n : ℕ) → Laid bs places → n < node_count places → tree_at (trees_of bs places) n ≡ fill (trees_of bs places) (row_at bs places n)
+  node-filled : (n : ℕ) → Laid bs places → n < places.node_count → tree_at (trees_of bs places) n ≡ fill (trees_of bs places) (row_at bs places n)
   unfolding trees_of
   node-filled n l h =
-      tree-at (listed (node_count places) (row_at bs places)) n (truth_row false) (rw length-listed h) (rw at (l.earlier n h))
-      ∙ ap (fill (trees (listed (node_count places) (row_at bs places)))) at
+      tree-at (listed places.node_count (row_at bs places)) n (truth_row false) (rw length-listed h) (rw at (l.earlier n h))
+      ∙ ap (fill (trees (listed places.node_count (row_at bs places)))) at
     where
-      at : get_or (listed (node_count places) (row_at bs places)) n (truth_row false) ≡ row_at bs places n
-      at = get_d_listed (node_count places) (row_at bs places) (truth_row false) n h
+      at : get_or (listed places.node_count (row_at bs places)) n (truth_row false) ≡ row_at bs places n
+      at = get_d_listed places.node_count (row_at bs places) (truth_row false) n h
 
-  pub integer-node : (n : ℕ) → Laid bs places → n < node_count places → integer_at ρ bs places α values n ≡ integer_of_case (integer_case (row_at bs places n))
+  pub integer-node : (n : ℕ) → Laid bs places → n < places.node_count → integer_at ρ bs places α values n ≡ integer_of_case (integer_case (row_at bs places n))
   unfolding integer_at tree_i
   integer-node n l h =
       ap (λ t. integer_walked ρ (declared bs places) α (as_i t) (setting_of values)) (node-filled n l h) ∙ filled-integer (row_at bs places n)
 
-  pub truth-node : (n : ℕ) → Laid bs places → n < node_count places → truth_at ρ bs places α values n ≡ truth_of_case (truth_case (row_at bs places n))
+  pub truth-node : (n : ℕ) → Laid bs places → n < places.node_count → truth_at ρ bs places α values n ≡ truth_of_case (truth_case (row_at bs places n))
   unfolding truth_at tree_b
   truth-node n l h = ap (λ t. truth_walked ρ (declared bs places) α (as_b t) (setting_of values)) (node-filled n l h) ∙ filled-truth (row_at bs places n)
 
 -- The operands of a node's case have smaller numbers.
-module _ (bs places : List ℕ) (n : ℕ) (l : Laid bs places) (h : n < node_count places) where
+module _ (bs : List ℕ) (places : TablePlaces) (n : ℕ) (l : Laid bs places) (h : n < places.node_count) where
   pub integer-operands : IntegerBelow n (integer_case (row_at bs places n))
   integer-operands = integer-below n (row_at bs places n) (l.earlier n h)
 

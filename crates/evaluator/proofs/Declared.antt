@@ -15,7 +15,8 @@ use Rattle.language.specs.Meaning.{Assignment, no_slot, no_array, slot_at, array
 use Rattle.table.specs.Records.{x_at, y_at}
 use Rattle.answers.specs.Sections.{listed, slot_of, element_of, array_of}
 use Rattle.answers.proofs.Listed.{length-listed, get_d_listed, get_d_listed_past}
-use Rattle.evaluator.specs.Walks.{slots_from, slot_count, array_count, declared}
+use Rattle.evaluator.specs.declared.places.TablePlaces.{TablePlaces}
+use Rattle.evaluator.specs.Walks.{declared}
 
 -- ---- lists by their places
 
@@ -31,23 +32,23 @@ missing_at (x ∷ xs) (suc k) h = missing_at xs k (omega arith)
 
 -- ---- slots and arrays
 
-module _ (bs places : List ℕ) where
-  pub slot-declared : (s : ℕ) → s < slot_count places → slot_at (declared bs places) s ≡ slot_of bs (slots_from places + s)
+module _ (bs : List ℕ) (places : TablePlaces) where
+  pub slot-declared : (s : ℕ) → s < places.slot_count → slot_at (declared bs places) s ≡ slot_of bs (places.slots_from + s)
   unfolding slot_at declared
-  slot-declared s h = get_d_listed (slot_count places) (λ i. slot_of bs (slots_from places + i)) no_slot s h
+  slot-declared s h = get_d_listed places.slot_count (λ i. slot_of bs (places.slots_from + i)) no_slot s h
 
-  pub slot-missing : (s : ℕ) → slot_count places ≤ s → slot_at (declared bs places) s ≡ no_slot
+  pub slot-missing : (s : ℕ) → places.slot_count ≤ s → slot_at (declared bs places) s ≡ no_slot
   unfolding slot_at declared
-  slot-missing s h = get_d_listed_past (slot_count places) (λ i. slot_of bs (slots_from places + i)) no_slot s h
+  slot-missing s h = get_d_listed_past places.slot_count (λ i. slot_of bs (places.slots_from + i)) no_slot s h
 
-  pub array-declared : (A : ℕ) → A < array_count places → array_count places ≤ length places → array_at (declared bs places) A ≡ array_of bs (get_or places A 0)
+  pub array-declared : (A : ℕ) → A < places.array_count → places.array_count ≤ length places.arrays → array_at (declared bs places) A ≡ array_of bs (get_or places.arrays A 0)
   unfolding array_at declared
   array-declared A h l =
-      get_d_map (array_of bs) (take (array_count places) places) A 0 no_array (rw length-take-le h) ∙ ap (array_of bs) (get_or-take (array_count places) places A 0 h)
+      get_d_map (array_of bs) (take places.array_count places.arrays) A 0 no_array (rw length-take-le h) ∙ ap (array_of bs) (get_or-take places.array_count places.arrays A 0 h)
 
-  pub array-missing : (A : ℕ) → array_count places ≤ A → array_count places ≤ length places → array_at (declared bs places) A ≡ no_array
+  pub array-missing : (A : ℕ) → places.array_count ≤ A → places.array_count ≤ length places.arrays → array_at (declared bs places) A ≡ no_array
   unfolding array_at declared
-  array-missing A h l = get_or-eq_default (map (array_of bs) (take (array_count places) places)) no_array {n = A} (rw (length-map, length-take-le (array_count places) places l) h)
+  array-missing A h l = get_or-eq_default (map (array_of bs) (take places.array_count places.arrays)) no_array {n = A} (rw (length-map, length-take-le places.array_count places.arrays l) h)
 
 -- ---- elements
 

@@ -6,7 +6,6 @@ use mathlib.Core.Bool.{true}
 use mathlib.Core.List.{List}
 use mathlib.Core.Option.{some}
 use lib.IntN.{ℤ}
-use lib.ListN.{length}
 use mir.Syntax.{w32}
 use mir.Val.{SFits}
 use Rattle.numbers.proofs.Widths.{through, arrives}
@@ -17,36 +16,28 @@ use Rattle.answers.specs.Sections.{row_of}
 use Rattle.operations.specs.declared.values.Walked.{Walked}
 use Rattle.evaluator.specs.declared.decoded.IntegerNode.{IntegerNode}
 use Rattle.evaluator.specs.declared.decoded.TruthNode.{TruthNode}
-use Rattle.evaluator.specs.declared.lookups.Leaf.{Leaf}
-use Rattle.evaluator.specs.declared.lookups.Leaf.TheVariants.{Is}
+use Rattle.std.proofs.Common.{Option, Some}
+use Rattle.table.specs.declared.Record.{Record}
+use Rattle.table.specs.Kinds.{kind_of, row_in}
+use Rattle.table.specs.Parts.{parts_of}
 use Rattle.operations.specs.Values.{limited_to}
-use Rattle.evaluator.specs.Nodes.{nodes_from, integer_case, truth_case}
-use Rattle.evaluator.specs.Walks.{row_at, Ready, setting_of, leaf_of, integer_at, truth_at}
+use Rattle.evaluator.specs.Nodes.{integer_case, truth_case}
+use Rattle.evaluator.specs.declared.places.TablePlaces.{TablePlaces}
+use Rattle.evaluator.specs.Walks.{row_at, Laid, setting_of, leaf_of, integer_at, truth_at}
 use Rattle.evaluator.proofs.Cases.{IntegerBelow, TruthBelow, integer_of_case, truth_of_case, integer-node, truth-node, integer-operands, truth-operands}
 
 -- ---- smaller numbers
 
--- A node with a smaller number is ready where the slots' values are as they were.
-pub ready : {bs places : List ℕ} {values values' : List ℤ} {n a : ℕ} → Ready bs places values n → a < n → values' ≡ values → Ready bs places values' a
-ready l h e = record { laid = l.laid; wide = ap length e ∙ l.wide; named = omega (arith, l.named) }
+-- The measures: 3n + 1 for a node, 3n + 2 for an operand or a walk over a slot's values. An operand's node is one of the table's.
+pub to-operand : {t n a m : ℕ} → 3 * n + 1 ≡ t → n < m → a < n → (3 * a + 2 < t) × (a < m)
+to-operand e l h = (omega arith, omega arith)
 
--- The measures: 3n + 1 for a node, 3n + 2 for an operand or a walk over a slot's values.
-pub to-operand : {t n a : ℕ} → 3 * n + 1 ≡ t → a < n → 3 * a + 2 < t
-to-operand e h = omega arith
-
-pub to-node : {t n a : ℕ} → 3 * n + 1 ≡ t → a < n → 3 * a + 1 < t
-to-node e h = omega arith
-
-pub same-node : {t : ℕ} (n : ℕ) → 3 * n + 2 ≡ t → 3 * n + 1 < t
-same-node n e = omega arith
-
--- A node's record lies within the table.
-pub node_in : {bs places : List ℕ} {values : List ℤ} {n : ℕ} → Ready bs places values n → nodes_from places + n < 5000
-node_in l = omega (arith, l.laid.nodes_in, l.named)
+pub to-node : {t n a m : ℕ} → 3 * n + 1 ≡ t → n < m → a < n → (3 * a + 1 < t) × (a < m)
+to-node e l h = (omega arith, omega arith)
 
 -- ---- a node's case
 
-leaf-row : (ρ : readings.Reading) (bs places : List ℕ) (α : Assignment) (values : List ℤ) (r : Row) {m : Walked} → leaf_of α (setting_of values) r ≡ Is m →
+leaf-row : (ρ : readings.Reading) (bs : List ℕ) (places : TablePlaces) (α : Assignment) (values : List ℤ) (r : Row) {m : Walked} → leaf_of α (setting_of values) r ≡ Some m →
     m ≡ integer_of_case ρ bs places α values (integer_case r)
 unfolding leaf_of integer_case
 leaf-row ρ bs places α values (constant_row z) e = cc
@@ -66,30 +57,32 @@ leaf-row ρ bs places α values (negation_row a) e = cc
 leaf-row ρ bs places α values (compare_row c a b) e = cc
 leaf-row ρ bs places α values (quantify_row q s a) e = cc
 
-module _ {bs places : List ℕ} {values : List ℤ} {n : ℕ} (l : Ready bs places values n) where
-  pub integer-smaller : {c d : IntegerNode} → c ≡ integer_case (row_of bs (nodes_from places + n)) → c ≡ d → IntegerBelow n d
-  unfolding row_at
-  integer-smaller h e = subst (IntegerBelow n) (sym h ∙ e) (integer-operands bs places n l.laid l.named)
-
-  pub truth-smaller : {c d : TruthNode} → c ≡ truth_case (row_of bs (nodes_from places + n)) → c ≡ d → TruthBelow n d
-  unfolding row_at
-  truth-smaller h e = subst (TruthBelow n) (sym h ∙ e) (truth-operands bs places n l.laid l.named)
-
-  pub integer-case : (ρ : readings.Reading) (α : Assignment) {c d : IntegerNode} → c ≡ integer_case (row_of bs (nodes_from places + n)) → c ≡ d →
-      integer_of_case ρ bs places α values d ≡ integer_at ρ bs places α values n
-  unfolding row_at
-  integer-case ρ α h e = ap (integer_of_case ρ bs places α values) (sym e ∙ h) ∙ sym (integer-node ρ bs places α values n l.laid l.named)
-
-  pub truth-case : (ρ : readings.Reading) (α : Assignment) {c d : TruthNode} → c ≡ truth_case (row_of bs (nodes_from places + n)) → c ≡ d →
-      truth_of_case ρ bs places α values d ≡ truth_at ρ bs places α values n
-  unfolding row_at
-  truth-case ρ α h e = ap (truth_of_case ρ bs places α values) (sym e ∙ h) ∙ sym (truth-node ρ bs places α values n l.laid l.named)
-
+module _ {bs : List ℕ} {places : TablePlaces} {n : ℕ} (l : Laid bs places) (h : n < places.node_count) where
   -- A leaf's value is the node's.
-  pub leaf-case : (ρ : readings.Reading) (α : Assignment) {c : Leaf} {m : Walked} → c ≡ leaf_of α (setting_of values) (row_of bs (nodes_from places + n)) → c ≡ Is m →
+  pub leaf-case : (ρ : readings.Reading) (α : Assignment) (values : List ℤ) {c : Option Walked} {m : Walked} → c ≡ leaf_of α (setting_of values) (row_of bs (places.nodes_from + n)) → c ≡ Some m →
       m ≡ integer_at ρ bs places α values n
   unfolding row_at
-  leaf-case ρ α h e = leaf-row ρ bs places α values (row_of bs (nodes_from places + n)) (sym h ∙ e) ∙ sym (integer-node ρ bs places α values n l.laid l.named)
+  leaf-case ρ α values g e = leaf-row ρ bs places α values (row_of bs (places.nodes_from + n)) (sym g ∙ e) ∙ sym (integer-node ρ bs places α values n l h)
+
+  -- A node whose record was read.
+  module _ {r : Record} (e : r ≡ parts_of bs (places.nodes_from + n)) where
+    read : row_in (kind_of r.kind) r.x r.y ≡ row_at bs places n
+    unfolding row_at row_of
+    read = rw e
+
+    pub integer-smaller : {c d : IntegerNode} → c ≡ integer_case (row_in (kind_of r.kind) r.x r.y) → c ≡ d → IntegerBelow n d
+    integer-smaller g i = subst (IntegerBelow n) (ap integer_case (sym read) ∙ sym g ∙ i) (integer-operands bs places n l h)
+
+    pub truth-smaller : {c d : TruthNode} → c ≡ truth_case (row_in (kind_of r.kind) r.x r.y) → c ≡ d → TruthBelow n d
+    truth-smaller g i = subst (TruthBelow n) (ap truth_case (sym read) ∙ sym g ∙ i) (truth-operands bs places n l h)
+
+    pub integer-case : (ρ : readings.Reading) (α : Assignment) (values : List ℤ) {c d : IntegerNode} → c ≡ integer_case (row_in (kind_of r.kind) r.x r.y) → c ≡ d →
+        integer_of_case ρ bs places α values d ≡ integer_at ρ bs places α values n
+    integer-case ρ α values g i = ap (integer_of_case ρ bs places α values) (sym i ∙ g ∙ ap integer_case read) ∙ sym (integer-node ρ bs places α values n l h)
+
+    pub truth-case : (ρ : readings.Reading) (α : Assignment) (values : List ℤ) {c d : TruthNode} → c ≡ truth_case (row_in (kind_of r.kind) r.x r.y) → c ≡ d →
+        truth_of_case ρ bs places α values d ≡ truth_at ρ bs places α values n
+    truth-case ρ α values g i = ap (truth_of_case ρ bs places α values) (sym i ∙ g ∙ ap truth_case read) ∙ sym (truth-node ρ bs places α values n l h)
 
 -- ---- what an operation makes of its operands
 

@@ -22,7 +22,8 @@ use Rattle.operations.specs.declared.sums.Total.{Total}
 use Rattle.operations.specs.Values.{limited_to}
 use Rattle.operations.specs.Truths.{connected}
 use Rattle.operations.specs.Sums.{total_value, plus_to}
-use Rattle.evaluator.specs.Walks.{slot_count, declared, Laid, range_of, integer_at, truth_at, sum_at, quantified_at}
+use Rattle.evaluator.specs.declared.places.TablePlaces.{TablePlaces}
+use Rattle.evaluator.specs.Walks.{declared, Laid, range_of, integer_at, truth_at, sum_at, quantified_at}
 use Rattle.evaluator.proofs.Declared.{slot-declared, slot-missing}
 use Rattle.evaluator.proofs.Binding.{total_to, total-more, sum-total, joint_to, joint_more, quantified-joint}
 
@@ -33,44 +34,44 @@ nat_abs→narrow (negsuc n) h = record { sfits = omega arith }
 
 -- ---- the range
 
-module _ {bs places : List ℕ} (l : Laid bs places) (s : ℕ) {r : Range} (e : r ≡ range_of (slot_at (declared bs places) s)) where
-  -- A slot with a value is declared.
-  pub slot-named : (r.count ≡ 0 → ⊥) → s < slot_count places
+-- A turn over a slot's values.
+module _ {bs : List ℕ} {places : TablePlaces} (l : Laid bs places) (s : ℕ) {r : Range} (e : r ≡ range_of (slot_at (declared bs places) s)) {k : ℕ} (h : k < r.count) where
+  -- The slot is declared,
+  pub slot-named : s < places.slot_count
   unfolding no_slot count
-  slot-named n = by_number (dec_lt s (slot_count places))
+  slot-named = by_number (dec_lt s places.slot_count)
     where
-      by_number : Dec (s < slot_count places) → s < slot_count places
-      by_number (yes h) = h
-      by_number (no h) = absurd (n (ap (λ (r : Range). r.count) (e ∙ ap range_of (slot-missing bs places s (omega arith)))))
+      by_number : Dec (s < places.slot_count) → s < places.slot_count
+      by_number (yes i) = i
+      by_number (no i) = absurd (omega (arith, ap (λ (r : Range). r.count) (e ∙ ap range_of (slot-missing bs places s (omega arith)))))
 
-  pub slot-in : (r.count ≡ 0 → ⊥) → s < 16
-  slot-in n = omega (arith, slot-named n, l.few_slots)
+  pub slot-in : s < 16
+  slot-in = omega (arith, slot-named, l.few_slots)
 
-  pub few-turns : (r.count ≡ 0 → ⊥) → r.count ≤ 10000
-  few-turns n = subst (λ m. m ≤ 10000) (sym (ap (λ (r : Range). r.count) e ∙ ap count (slot-declared bs places s (slot-named n)))) (l.few_values s (slot-named n))
+  pub few-turns : r.count ≤ 10000
+  few-turns = subst (λ m. m ≤ 10000) (sym (ap (λ (r : Range). r.count) e ∙ ap count (slot-declared bs places s slot-named))) (l.few_values s slot-named)
 
-  -- The value of a turn fits.
-  pub value-fits : (k : ℕ) → SFits w32 r.low → k < r.count → (r.count ≡ 0 → ⊥) → SFits w32 (to_z w32 (of_z w32 r.low) +ℤ pos k)
-  value-fits k f h n = rw (to_z-of_z f) (nat_abs→narrow (r.low +ℤ pos k) (omega (arith, nat_abs-+-≤ r.low (pos k), near, few-turns n)))
+  -- the turn's value fits,
+  pub value-fits : SFits w32 (r.low +ℤ pos k)
+  value-fits = nat_abs→narrow (r.low +ℤ pos k) (omega (arith, nat_abs-+-≤ r.low (pos k), near, few-turns))
     where
       near : nat_abs r.low ≤ 1_000_000_000
-      near = subst (λ z. nat_abs z ≤ 1_000_000_000) (sym (ap (λ (r : Range). r.low) e ∙ ap (λ (s : syntax.Slot). s.low) (slot-declared bs places s (slot-named n)))) (l.near_slots s (slot-named n))
+      near = subst (λ z. nat_abs z ≤ 1_000_000_000) (sym (ap (λ (r : Range). r.low) e ∙ ap (λ (s : syntax.Slot). s.low) (slot-declared bs places s slot-named))) (l.near_slots s slot-named)
 
-  -- And it is the slot's.
-  pub value-is : (k : ℕ) {v : ℤ} → SFits w32 r.low → SFits w32 v → v ≡ to_z w32 (of_z w32 r.low) +ℤ pos k →
-      to_z w32 (of_z w32 v) ≡ (slot_at (declared bs places) s).low +ℤ pos k
-  value-is k f g h = to_z-of_z g ∙ h ∙ rw (to_z-of_z f) (ap (λ (r : Range). r.low +ℤ pos k) e)
+  -- and it is the slot's.
+  pub value-is : {v : ℤ} → SFits w32 v → v ≡ r.low +ℤ pos k → to_z w32 (of_z w32 v) ≡ (slot_at (declared bs places) s).low +ℤ pos k
+  value-is g i = to_z-of_z g ∙ i ∙ ap (λ (r : Range). r.low +ℤ pos k) e
 
 -- ---- the slots' values
 
 -- What the turn stored is put back.
-pub restored : (values : List ℤ) (s : ℕ) (v : ℤ) {left now : List ℤ} → SFits w32 (get_or values s (pos 0)) → now ≡ values → left ≡ set now s v →
-    set left s (to_z w32 (of_z w32 (get_or values s (pos 0)))) ≡ values
-restored values s v f k e = rw (to_z-of_z f, e, k, set-set values s v (get_or values s (pos 0))) (set-get_or values s (pos 0))
+pub restored : (now : List ℤ) (s : ℕ) (v : ℤ) {left values : List ℤ} → SFits w32 (get_or now s (pos 0)) → now ≡ values → left ≡ set now s v →
+    set left s (to_z w32 (of_z w32 (get_or now s (pos 0)))) ≡ values
+restored now s v f k e = rw (to_z-of_z f, e, set-set now s v (get_or now s (pos 0)), set-get_or now s (pos 0)) k
 
 -- ---- turns
 
-module _ (ρ : readings.Reading) (bs places : List ℕ) (α : Assignment) (values : List ℤ) (s a : ℕ) where
+module _ (ρ : readings.Reading) (bs : List ℕ) (places : TablePlaces) (α : Assignment) (values : List ℤ) (s a : ℕ) where
   pub sum-turn : (k : ℕ) {v : ℤ} {now : List ℤ} {total total' : Total} {m : Walked} → s < length values → total ≡ total_to ρ bs places α values s a k → now ≡ values →
       v ≡ (slot_at (declared bs places) s).low +ℤ pos k → m ≡ integer_at ρ bs places α (set now s v) a → total' ≡ plus_to total m → total' ≡ total_to ρ bs places α values s a (k + 1)
   sum-turn k h p q e g t = t ∙ rw (p, g, q, e, add-one k) (total-more ρ bs places α values s a k h)

@@ -15,7 +15,7 @@ use Rattle.operations.specs.Values.{of_integer, of_truth, integer_of, truth_of, 
 use Rattle.operations.specs.Integers.{integers, negated, numbered}
 use Rattle.operations.specs.Truths.{compared, connected, opposed}
 use Rattle.evaluator.specs.Walks.{integer_walked, truth_walked, looked_up, looked_up_truth}
-use Rattle.operations.proofs.Pairs.{integer_of-of_integer}
+use Rattle.operations.proofs.Walks.{integer_of-of_integer}
 
 truth_of-of_truth : (v : Option Bool) → truth_of (of_truth v) ≡ v
 truth_of-of_truth none = refl

@@ -1,2 +1,4 @@
+pub mod LaidOnce
 pub mod Nodes
+pub mod OfWalk
 pub mod Walks

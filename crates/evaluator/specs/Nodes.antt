@@ -1,6 +1,6 @@
 -- Node records decoded: the case of each row. A node of the other type reads as 0, or as false.
 -- Internal: a contract behind the public ones; no public promise cites it.
-use Rattle.std.specs.Prelude.{ℕ, false, List, pos, get_or}
+use Rattle.std.specs.Prelude.{ℕ, false, pos}
 use Rattle.language.specs.Syntax as syntax
 use Rattle.language.specs.Tables.{Row, constant_row, variable_row, slot_row, arith_row, divide_row, negate_row, bool_to_int_row, lookup_row, sum_row, truth_row, variable_b_row, lookup_b_row, connect_row, negation_row, compare_row, quantify_row}
 use Rattle.table.specs.declared.VariableNumber.{VariableNumber}
@@ -9,16 +9,14 @@ use Rattle.table.specs.declared.ArrayNumber.{ArrayNumber}
 use Rattle.table.specs.declared.NodeNumber.{NodeNumber}
 use Rattle.operations.specs.declared.integers.Arithmetic.TheVariants as arithmetic
 use Rattle.operations.specs.declared.integers.Division.TheVariants as division
+use Rattle.operations.specs.declared.truths.Comparison.TheVariants as comparison
 use Rattle.operations.specs.declared.truths.Connective.TheVariants as connective
+use Rattle.operations.specs.declared.values.Quantifier.TheVariants as quantifier
 use Rattle.operations.specs.declared.values.Value.TheVariants.{Integer, Truth}
 use Rattle.evaluator.specs.declared.decoded.IntegerNode.{IntegerNode}
 use Rattle.evaluator.specs.declared.decoded.IntegerNode.TheVariants as integer
 use Rattle.evaluator.specs.declared.decoded.TruthNode.{TruthNode}
 use Rattle.evaluator.specs.declared.decoded.TruthNode.TheVariants as truth
-
--- the record of node 0
-abbrev pub nodes_from : List ℕ → ℕ
-nodes_from places = get_or places 67 0
 
 -- numbers as the code has them
 abbrev pub node : ℕ → NodeNumber
@@ -66,13 +64,13 @@ truth_case (connect_row syntax.conj a b) = truth.Connected connective.And (node 
 truth_case (connect_row syntax.disj a b) = truth.Connected connective.Or (node a) (node b)
 truth_case (connect_row syntax.implies a b) = truth.Connected connective.Implies (node a) (node b)
 truth_case (connect_row syntax.iff a b) = truth.Connected connective.Iff (node a) (node b)
-truth_case (compare_row syntax.equal a b) = truth.Equal (node a) (node b)
-truth_case (compare_row syntax.unequal a b) = truth.Unequal (node a) (node b)
-truth_case (compare_row syntax.at_most a b) = truth.AtMost (node a) (node b)
-truth_case (compare_row syntax.below a b) = truth.Below (node a) (node b)
+truth_case (compare_row syntax.equal a b) = truth.Compared comparison.Equal (node a) (node b)
+truth_case (compare_row syntax.unequal a b) = truth.Compared comparison.Unequal (node a) (node b)
+truth_case (compare_row syntax.at_most a b) = truth.Compared comparison.AtMost (node a) (node b)
+truth_case (compare_row syntax.below a b) = truth.Compared comparison.Below (node a) (node b)
 truth_case (negation_row a) = truth.Not (node a)
-truth_case (quantify_row syntax.exists s a) = truth.Exists (slot s) (node a)
-truth_case (quantify_row syntax.forall s a) = truth.Forall (slot s) (node a)
+truth_case (quantify_row syntax.exists s a) = truth.Quantified quantifier.Exists (slot s) (node a)
+truth_case (quantify_row syntax.forall s a) = truth.Quantified quantifier.Forall (slot s) (node a)
 truth_case (constant_row z) = truth.Constant (Truth false)
 truth_case (variable_row v) = truth.Constant (Truth false)
 truth_case (slot_row s) = truth.Constant (Truth false)

@@ -1,15 +1,13 @@
 // Node records decoded. A node of the other type is met in no sound table: it reads as 0, or as false.
-ghost use Rattle.std.specs.Prelude.{◌≡◌, ◌+◌, ◌<◌, nat_abs};
-ghost use Rattle.table.specs.Records as records;
-ghost use Rattle.answers.specs.Sections.{row_of};
-ghost use Rattle.evaluator.specs.Nodes.{nodes_from, node, integer_case, truth_case};
+ghost use Rattle.std.specs.Prelude.{◌≡◌};
+ghost use Rattle.table.specs.Kinds.{kind_of, row_in};
+ghost use Rattle.evaluator.specs.Nodes.{integer_case, truth_case};
 
-use crate::NODES_FROM;
-use crate::records::{kind_at, named_x, named_y, x_at};
 use operations::integers::{Arithmetic, Division};
-use operations::truths::Connective;
-use operations::values::Value;
-use table::{ArrayNumber, MOST_BYTES, NodeNumber, SlotNumber, VariableNumber, kind};
+use operations::truths::{Comparison, Connective};
+use operations::values::{Quantifier, Value};
+use table::kind::Kind;
+use table::{ArrayNumber, NodeNumber, Record, SlotNumber, VariableNumber};
 
 #[derive(Clone, Copy)]
 pub enum IntegerNode {
@@ -24,7 +22,6 @@ pub enum IntegerNode {
     Sum(SlotNumber, NodeNumber),
 }
 
-// Each comparison and each quantifier has a case of its own: a second choice in the walk would slow ranges down.
 #[derive(Clone, Copy)]
 pub enum TruthNode {
     Constant(Value),
@@ -32,72 +29,60 @@ pub enum TruthNode {
     Lookup(ArrayNumber, NodeNumber),
     Connected(Connective, NodeNumber, NodeNumber),
     Not(NodeNumber),
-    Equal(NodeNumber, NodeNumber),
-    Unequal(NodeNumber, NodeNumber),
-    AtMost(NodeNumber, NodeNumber),
-    Below(NodeNumber, NodeNumber),
-    Exists(SlotNumber, NodeNumber),
-    Forall(SlotNumber, NodeNumber),
+    Compared(Comparison, NodeNumber, NodeNumber),
+    Quantified(Quantifier, SlotNumber, NodeNumber),
 }
 
-fn node_x(t: &[u8; MOST_BYTES], k: u32) -> NodeNumber
-    requires { k < 5000 }
-    ensures { result ≡ node (nat_abs (records.x_at t.now k)) }
+pub fn integer_node(row: Record) -> IntegerNode
+    ensures { result ≡ integer_case (row_in (kind_of row.kind) row.x row.y) }
 {
-    NodeNumber(named_x(t, k))
-}
-
-fn node_y(t: &[u8; MOST_BYTES], k: u32) -> NodeNumber
-    requires { k < 5000 }
-    ensures { result ≡ node (nat_abs (records.y_at t.now k)) }
-{
-    NodeNumber(named_y(t, k))
-}
-
-pub fn integer_node(t: &[u8; MOST_BYTES], places: &[u32; 69], n: NodeNumber) -> IntegerNode
-    requires { nodes_from places.now + n.0 < 5000 }
-    ensures { result ≡ integer_case (row_of t.now (nodes_from places.now + n.0)) }
-{
-    let r = places[NODES_FROM] + n.0;
-    match kind_at(t, r) {
-        kind::CONSTANT => IntegerNode::Constant(Value::Integer(x_at(t, r))),
-        kind::VARIABLE => IntegerNode::Variable(VariableNumber(named_x(t, r))),
-        kind::SLOT => IntegerNode::Slot(SlotNumber(named_x(t, r))),
-        kind::ADD => IntegerNode::Calculated(Arithmetic::Plus, node_x(t, r), node_y(t, r)),
-        kind::SUBTRACT => IntegerNode::Calculated(Arithmetic::Minus, node_x(t, r), node_y(t, r)),
-        kind::MULTIPLY => IntegerNode::Calculated(Arithmetic::Times, node_x(t, r), node_y(t, r)),
-        kind::DIV => IntegerNode::Divided(Division::Quotient, node_x(t, r), node_y(t, r)),
-        kind::MOD => IntegerNode::Divided(Division::Remainder, node_x(t, r), node_y(t, r)),
-        kind::NEGATE => IntegerNode::Negate(node_x(t, r)),
-        kind::MIN => IntegerNode::Calculated(Arithmetic::Minimum, node_x(t, r), node_y(t, r)),
-        kind::MAX => IntegerNode::Calculated(Arithmetic::Maximum, node_x(t, r), node_y(t, r)),
-        kind::BOOL_TO_INT => IntegerNode::BoolToInt(node_x(t, r)),
-        kind::LOOKUP => IntegerNode::Lookup(ArrayNumber(named_x(t, r)), node_y(t, r)),
-        kind::SUM => IntegerNode::Sum(SlotNumber(named_x(t, r)), node_y(t, r)),
+    let (x, y) = row.named();
+    let (a, b) = (NodeNumber(x), NodeNumber(y));
+    let Ok(kind) = Kind::try_from(row.kind) else {
+        return IntegerNode::Constant(Value::Integer(0));
+    };
+    match kind {
+        Kind::Constant => IntegerNode::Constant(Value::Integer(row.x)),
+        Kind::Variable => IntegerNode::Variable(VariableNumber(x)),
+        Kind::Slot => IntegerNode::Slot(SlotNumber(x)),
+        Kind::Add => IntegerNode::Calculated(Arithmetic::Plus, a, b),
+        Kind::Subtract => IntegerNode::Calculated(Arithmetic::Minus, a, b),
+        Kind::Multiply => IntegerNode::Calculated(Arithmetic::Times, a, b),
+        Kind::Div => IntegerNode::Divided(Division::Quotient, a, b),
+        Kind::Mod => IntegerNode::Divided(Division::Remainder, a, b),
+        Kind::Negate => IntegerNode::Negate(a),
+        Kind::Min => IntegerNode::Calculated(Arithmetic::Minimum, a, b),
+        Kind::Max => IntegerNode::Calculated(Arithmetic::Maximum, a, b),
+        Kind::BoolToInt => IntegerNode::BoolToInt(a),
+        Kind::Lookup => IntegerNode::Lookup(ArrayNumber(x), b),
+        Kind::Sum => IntegerNode::Sum(SlotNumber(x), b),
         _ => IntegerNode::Constant(Value::Integer(0)),
     }
 }
 
-pub fn truth_node(t: &[u8; MOST_BYTES], places: &[u32; 69], n: NodeNumber) -> TruthNode
-    requires { nodes_from places.now + n.0 < 5000 }
-    ensures { result ≡ truth_case (row_of t.now (nodes_from places.now + n.0)) }
+pub fn truth_node(row: Record) -> TruthNode
+    ensures { result ≡ truth_case (row_in (kind_of row.kind) row.x row.y) }
 {
-    let r = places[NODES_FROM] + n.0;
-    match kind_at(t, r) {
-        kind::TRUTH_VALUE => TruthNode::Constant(Value::Truth(x_at(t, r) == 1)),
-        kind::BOOLEAN_VARIABLE => TruthNode::Variable(VariableNumber(named_x(t, r))),
-        kind::BOOLEAN_LOOKUP => TruthNode::Lookup(ArrayNumber(named_x(t, r)), node_y(t, r)),
-        kind::AND => TruthNode::Connected(Connective::And, node_x(t, r), node_y(t, r)),
-        kind::OR => TruthNode::Connected(Connective::Or, node_x(t, r), node_y(t, r)),
-        kind::IMPLIES => TruthNode::Connected(Connective::Implies, node_x(t, r), node_y(t, r)),
-        kind::IFF => TruthNode::Connected(Connective::Iff, node_x(t, r), node_y(t, r)),
-        kind::NOT => TruthNode::Not(node_x(t, r)),
-        kind::EQUAL => TruthNode::Equal(node_x(t, r), node_y(t, r)),
-        kind::UNEQUAL => TruthNode::Unequal(node_x(t, r), node_y(t, r)),
-        kind::AT_MOST => TruthNode::AtMost(node_x(t, r), node_y(t, r)),
-        kind::BELOW => TruthNode::Below(node_x(t, r), node_y(t, r)),
-        kind::EXISTS => TruthNode::Exists(SlotNumber(named_x(t, r)), node_y(t, r)),
-        kind::FORALL => TruthNode::Forall(SlotNumber(named_x(t, r)), node_y(t, r)),
+    let (x, y) = row.named();
+    let (a, b) = (NodeNumber(x), NodeNumber(y));
+    let Ok(kind) = Kind::try_from(row.kind) else {
+        return TruthNode::Constant(Value::Truth(false));
+    };
+    match kind {
+        Kind::TruthValue => TruthNode::Constant(Value::Truth(row.x == 1)),
+        Kind::BooleanVariable => TruthNode::Variable(VariableNumber(x)),
+        Kind::BooleanLookup => TruthNode::Lookup(ArrayNumber(x), b),
+        Kind::And => TruthNode::Connected(Connective::And, a, b),
+        Kind::Or => TruthNode::Connected(Connective::Or, a, b),
+        Kind::Implies => TruthNode::Connected(Connective::Implies, a, b),
+        Kind::Iff => TruthNode::Connected(Connective::Iff, a, b),
+        Kind::Not => TruthNode::Not(a),
+        Kind::Equal => TruthNode::Compared(Comparison::Equal, a, b),
+        Kind::Unequal => TruthNode::Compared(Comparison::Unequal, a, b),
+        Kind::AtMost => TruthNode::Compared(Comparison::AtMost, a, b),
+        Kind::Below => TruthNode::Compared(Comparison::Below, a, b),
+        Kind::Exists => TruthNode::Quantified(Quantifier::Exists, SlotNumber(x), b),
+        Kind::Forall => TruthNode::Quantified(Quantifier::Forall, SlotNumber(x), b),
         _ => TruthNode::Constant(Value::Truth(false)),
     }
 }

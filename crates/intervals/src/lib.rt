@@ -1,201 +1,249 @@
 // Intervals, and what each operation makes of its operands' intervals.
 #![tactic(auto)]
 
-ghost use Rattle.std.specs.Prelude.{◌≡◌, ◌&&◌, ◌≤◌, pos, neg_ℤ, nat_abs};
-ghost use Rattle.numbers.specs.Limits.{limit};
+ghost use Rattle.std.specs.Prelude.{◌≡◌, pos, ◌*ℤ◌};
 ghost use Rattle.numbers.specs.Whole as Whole;
 ghost use Rattle.language.specs.Syntax as Syntax;
 ghost use Rattle.language.specs.Meaning as Meaning;
 ghost use Rattle.rules.specs.Bounds as Bounds;
-ghost use Rattle.intervals.specs.Spans.{span, as_slot, opposite, repeated, Small, Narrow};
+ghost use Rattle.intervals.specs.Spans.{span, interval_of, as_slot, opposite, repeated, IsNarrowed};
 
-// low..high.
-#[derive(Clone, Copy)]
+use std::ops::{Add, Mul, Neg, Sub};
+
+// "Beyond ±2,000,000,000".
+const LIMIT: i64 = 2_000_000_000;
+
+// low..high. Ends of 32 bits hold every number within the limit.
+#[derive(Clone, Copy, Debug, PartialEq, Eq)]
+pub struct Interval {
+    pub low: i32,
+    pub high: i32,
+}
+
+// What an operation makes of intervals. Its ends may be beyond the limit, and fit 64 bits.
+#[derive(Clone, Copy, Debug, PartialEq, Eq)]
 pub struct Ends {
     pub low: i64,
     pub high: i64,
 }
 
-fn least(a: i64, b: i64) -> i64
-    ensures { result ≡ Whole.least a b }
-{
-    if a <= b { a } else { b }
+// A slot's range, which is empty where low is above high.
+#[derive(Clone, Copy, Debug, PartialEq, Eq)]
+pub struct Slot {
+    pub low: i32,
+    pub high: i32,
 }
 
-fn greatest(a: i64, b: i64) -> i64
-    ensures { result ≡ Whole.greatest a b }
+fn is_within(z: i64) -> bool
+    ensures { result ≡ Whole.within_limit z }
 {
-    if a <= b { b } else { a }
+    (-LIMIT..=LIMIT).contains(&z)
 }
 
-// The magnitude of a number within the limit.
-fn magnitude(a: i64) -> i64
-    requires { nat_abs a ≤ limit }
-    ensures { result ≡ pos (nat_abs a) }
+fn product(a: i32, b: i32) -> i64
+    ensures { result ≡ a *ℤ b }
 {
-    if a < 0 { 0 - a } else { a }
+    i64::from(a) * i64::from(b)
 }
 
-// x..x.
-pub fn only(z: i64) -> Ends
-    ensures { span result ≡ Bounds.only z }
-{
-    Ends { low: z, high: z }
-}
+impl Interval {
+    pub const ZERO: Interval = Interval { low: 0, high: 0 };
 
-// The least interval that holds both.
-pub fn hull(i: Ends, j: Ends) -> Ends
-    ensures { span result ≡ Bounds.hull (span i) (span j) }
-{
-    Ends {
-        low: least(i.low, j.low),
-        high: greatest(i.high, j.high),
+    // z..z.
+    #[tactic(auto, unfolding(rules::specs::Bounds::only))]
+    pub fn only(z: i32) -> Interval
+        ensures { interval_of result ≡ Bounds.only z }
+    {
+        Interval { low: z, high: z }
+    }
+
+    // The least interval that holds both.
+    #[tactic(auto, using(crate::proofs::Spans::ends), unfolding(rules::specs::Bounds::hull))]
+    pub fn hull(self, other: Interval) -> Interval
+        ensures { interval_of result ≡ Bounds.hull (interval_of self) (interval_of other) }
+    {
+        Interval {
+            low: self.low.min(other.low),
+            high: self.high.max(other.high),
+        }
+    }
+
+    #[tactic(auto, using(crate::proofs::Spans::ends), unfolding(rules::specs::Bounds::arith_interval))]
+    pub fn min(self, other: Interval) -> Interval
+        ensures { interval_of result ≡ Bounds.arith_interval Syntax.minimum (interval_of self) (interval_of other) }
+    {
+        Interval {
+            low: self.low.min(other.low),
+            high: self.high.min(other.high),
+        }
+    }
+
+    // Kept: one function of a closure for hull, min and max would take two closures at each caller, and clauses on what they give: no plainer.
+    #[tactic(auto, using(crate::proofs::Spans::ends), unfolding(rules::specs::Bounds::arith_interval))]
+    pub fn max(self, other: Interval) -> Interval
+        ensures { interval_of result ≡ Bounds.arith_interval Syntax.maximum (interval_of self) (interval_of other) }
+    {
+        Interval {
+            low: self.low.max(other.low),
+            high: self.high.max(other.high),
+        }
+    }
+
+    // "−M..M with M the largest magnitude of the left operand", whatever the divisor.
+    #[tactic(auto, unfolding(rules::specs::Bounds::divide_interval))]
+    pub fn quotients(self) -> Ends
+        ensures { (j : Bounds.Interval) → span result ≡ Bounds.divide_interval Syntax.quot (interval_of self) j }
+    {
+        Ends::around(self.largest())
+    }
+
+    // The divisor's: "−k..k with k = max(0, m−1)", m its largest magnitude, whatever the left operand.
+    #[tactic(auto, unfolding(rules::specs::Bounds::divide_interval))]
+    pub fn remainders(self) -> Ends
+        ensures { (i : Bounds.Interval) → span result ≡ Bounds.divide_interval Syntax.rem i (interval_of self) }
+    {
+        Ends::around(self.largest().saturating_sub(1))
+    }
+
+    // The largest magnitude of an interval.
+    #[tactic(auto, unfolding(rules::specs::Bounds::magnitude))]
+    fn largest(self) -> u32
+        ensures { result ≡ Bounds.magnitude (interval_of self) }
+    {
+        self.low.unsigned_abs().max(self.high.unsigned_abs())
     }
 }
 
-pub fn plus(i: Ends, j: Ends) -> Ends
-    requires small { Small i }
-    requires small_2 { Small j }
-    ensures { span result ≡ Bounds.arith_interval Syntax.plus (span i) (span j) }
-{
-    Ends {
-        low: i.low + j.low,
-        high: i.high + j.high,
+impl Ends {
+    // −m..m.
+    #[tactic(auto, unfolding(rules::specs::Bounds::around))]
+    fn around(m: u32) -> Ends
+        ensures { span result ≡ Bounds.around m }
+    {
+        Ends {
+            low: -i64::from(m),
+            high: i64::from(m),
+        }
+    }
+
+    // The interval, where neither end is beyond the limit.
+    #[tactic(auto, using(crate::proofs::Spans::ends))]
+    pub fn within_limit(self) -> Option<Interval>
+        ensures { IsNarrowed (span self) result }
+    {
+        if is_within(self.low) && is_within(self.high) {
+            Some(Interval {
+                low: self.low as i32,
+                high: self.high as i32,
+            })
+        } else {
+            None
+        }
     }
 }
 
-pub fn minus(i: Ends, j: Ends) -> Ends
-    requires small { Small i }
-    requires small_2 { Small j }
-    ensures { span result ≡ Bounds.arith_interval Syntax.minus (span i) (span j) }
-{
-    Ends {
-        low: i.low - j.high,
-        high: i.high - j.low,
+impl From<Interval> for Ends {
+    ghost from_gives = { λ i r. span r ≡ interval_of i };
+
+    fn from(interval: Interval) -> Ends {
+        Ends {
+            low: i64::from(interval.low),
+            high: i64::from(interval.high),
+        }
+    }
+}
+
+// "Add .. end by end".
+impl Add for Interval {
+    type Output = Ends;
+
+    ghost add_gives = { λ i j r. span r ≡ Bounds.arith_interval Syntax.plus (interval_of i) (interval_of j) };
+
+    fn add(self, other: Interval) -> Ends {
+        Ends {
+            low: i64::from(self.low) + i64::from(other.low),
+            high: i64::from(self.high) + i64::from(other.high),
+        }
+    }
+}
+
+// "The least and greatest value that the operands' ends give".
+impl Sub for Interval {
+    type Output = Ends;
+
+    ghost sub_gives = { λ i j r. span r ≡ Bounds.arith_interval Syntax.minus (interval_of i) (interval_of j) };
+
+    fn sub(self, other: Interval) -> Ends {
+        Ends {
+            low: i64::from(self.low) - i64::from(other.high),
+            high: i64::from(self.high) - i64::from(other.low),
+        }
+    }
+}
+
+impl Neg for Interval {
+    type Output = Ends;
+
+    ghost neg_gives = { λ i r. span r ≡ opposite (interval_of i) };
+
+    fn neg(self) -> Ends {
+        Ends {
+            low: -i64::from(self.high),
+            high: -i64::from(self.low),
+        }
     }
 }
 
 // The least and greatest of four products.
-pub fn times(i: Ends, j: Ends) -> Ends
-    requires small { Small i }
-    requires small_2 { Small j }
-    ensures { span result ≡ Bounds.arith_interval Syntax.times (span i) (span j) }
-{
-    let first = hull(only(i.low * j.low), only(i.low * j.high));
-    let second = hull(only(i.high * j.low), only(i.high * j.high));
-    hull(first, second)
-}
+impl Mul for Interval {
+    type Output = Ends;
 
-pub fn lesser(i: Ends, j: Ends) -> Ends
-    ensures { span result ≡ Bounds.arith_interval Syntax.minimum (span i) (span j) }
-{
-    Ends {
-        low: least(i.low, j.low),
-        high: least(i.high, j.high),
+    ghost mul_gives = { λ i j r. span r ≡ Bounds.arith_interval Syntax.times (interval_of i) (interval_of j) };
+
+    fn mul(self, other: Interval) -> Ends {
+        let a = product(self.low, other.low);
+        let b = product(self.low, other.high);
+        let c = product(self.high, other.low);
+        let d = product(self.high, other.high);
+        Ends {
+            low: a.min(b).min(c.min(d)),
+            high: a.max(b).max(c.max(d)),
+        }
     }
 }
 
-pub fn greater(i: Ends, j: Ends) -> Ends
-    ensures { span result ≡ Bounds.arith_interval Syntax.maximum (span i) (span j) }
-{
-    Ends {
-        low: greatest(i.low, j.low),
-        high: greatest(i.high, j.high),
+impl Slot {
+    // The slot's range, x..x where it is empty.
+    #[tactic(auto, using(crate::proofs::Spans::ends), unfolding(rules::specs::Bounds::slot_interval))]
+    pub fn values(self) -> Interval
+        ensures { interval_of result ≡ Bounds.slot_interval (as_slot self) }
+    {
+        Interval {
+            low: self.low,
+            high: self.low.max(self.high),
+        }
     }
-}
 
-// The largest magnitude of an interval.
-fn largest(i: Ends) -> i64
-    requires { Small i }
-    ensures { result ≡ pos (Bounds.magnitude (span i)) }
-{
-    greatest(magnitude(i.low), magnitude(i.high))
-}
-
-// −m..m.
-fn around(m: i64) -> Ends
-    requires { nat_abs m ≤ limit }
-    ensures { span result ≡ Bounds.◌to◌ (neg_ℤ m) m }
-{
-    Ends {
-        low: 0 - m,
-        high: m,
+    // How many values the slot has.
+    #[tactic(auto, using(std::proofs::lemmas::Int::ints), unfolding(language::specs::Meaning::count))]
+    fn count(self) -> i64
+        ensures { result ≡ pos (Meaning.count (as_slot self)) }
+    {
+        if self.low <= self.high {
+            i64::from(self.high) - i64::from(self.low) + 1
+        } else {
+            0
+        }
     }
-}
 
-pub fn quotients(i: Ends, j: Ends) -> Ends
-    requires { Small i }
-    ensures { span result ≡ Bounds.divide_interval Syntax.quot (span i) (span j) }
-{
-    around(largest(i))
-}
-
-// "−k..k with k = max(0, m−1)", m the divisor's largest magnitude.
-pub fn remainders(i: Ends, j: Ends) -> Ends
-    requires { Small j }
-    ensures { span result ≡ Bounds.divide_interval Syntax.rem (span i) (span j) }
-{
-    let m = largest(j);
-    around(greatest(0, m - 1))
-}
-
-pub fn negated(i: Ends) -> Ends
-    requires { Small i }
-    ensures { span result ≡ opposite (span i) }
-{
-    Ends {
-        low: 0 - i.high,
-        high: 0 - i.low,
+    // The body's ends times the slot's count.
+    pub fn sum(self, body: Interval) -> Ends
+        ensures { span result ≡ repeated (Meaning.count (as_slot self)) (interval_of body) }
+    {
+        let n = self.count();
+        Ends {
+            low: n * i64::from(body.low),
+            high: n * i64::from(body.high),
+        }
     }
-}
-
-// A slot's range, x..x where it is empty.
-pub fn slot_values(s: Ends) -> Ends
-    ensures { span result ≡ Bounds.slot_interval (as_slot s) }
-{
-    Ends {
-        low: s.low,
-        high: greatest(s.low, s.high),
-    }
-}
-
-// How many values a slot has.
-fn slot_count(s: Ends) -> i64
-    requires { Narrow s }
-    ensures { result ≡ pos (Meaning.count (as_slot s)) }
-{
-    if s.low <= s.high {
-        s.high - s.low + 1
-    } else {
-        0
-    }
-}
-
-// The body's ends times the slot's count.
-pub fn summed(s: Ends, i: Ends) -> Ends
-    requires narrow { Narrow s }
-    requires small { Small i }
-    ensures { span result ≡ repeated (Meaning.count (as_slot s)) (span i) }
-{
-    let n = slot_count(s);
-    Ends {
-        low: n * i.low,
-        high: n * i.high,
-    }
-}
-
-fn within(z: i64) -> bool
-    ensures { result ≡ Whole.within_limit z }
-{
-    if z < -2_000_000_000 {
-        return false;
-    }
-    z <= 2_000_000_000
-}
-
-// Neither end is beyond the limit.
-pub fn within_limit(i: Ends) -> bool
-    ensures { result ≡ (Whole.within_limit i.low && Whole.within_limit i.high) }
-{
-    if within(i.low) { within(i.high) } else { false }
 }

@@ -1,197 +1,135 @@
 // "One small table of kinds says which operands each kind takes and what it yields."
 #![tactic(auto)]
 
-ghost use Rattle.std.specs.Prelude.{◌≡◌};
+ghost use Rattle.std.specs.Prelude.{◌≡◌, ◌&&◌, ltb, nat_abs};
+ghost use Rattle.std.specs.Int.Signed.{non_neg};
 ghost use Rattle.table.specs.Kinds.{kinds};
-ghost use Rattle.kinds.specs.Entries.{entries_of, row_of};
+ghost use Rattle.kinds.specs.Entries.{declared_sort, entries_of, row_of};
 
-// What a field of a node holds, as a number. No number is right where there is no such kind, ..
-const MISSING: u8 = 0;
+// What a field of a node holds.
+#[derive(Clone, Copy, Debug, PartialEq, Eq)]
+pub enum Operand {
+    // No number is right: there is no such kind.
+    Missing,
+    // 0.
+    Unused,
+    AnyNumber,
+    // 0 or 1.
+    TruthValue,
+    // The number of a slot, or of a variable, an array or an earlier node of that type.
+    Slot,
+    BooleanVariable,
+    IntegerVariable,
+    BooleanArray,
+    IntegerArray,
+    BooleanNode,
+    IntegerNode,
+}
 
-// .. the field is 0, ..
-const UNUSED: u8 = 1;
+// A type.
+#[derive(Clone, Copy, Debug, PartialEq, Eq)]
+pub enum Sort {
+    Boolean,
+    Integer,
+}
 
-// .. or is any number, ..
-pub const ANY_NUMBER: u8 = 2;
+impl Sort {
+    // The type of a variable, an array or a constant of that kind: 0 Boolean, 1 integer.
+    pub fn declared(kind: u8) -> Sort
+        ensures { result ≡ declared_sort kind }
+    {
+        if kind == 0 {
+            Sort::Boolean
+        } else {
+            Sort::Integer
+        }
+    }
+}
 
-// .. or is 0 or 1, ..
-pub const TRUTH_VALUE: u8 = 3;
+// A kind of node: what x holds, what y holds, what the kind yields, and whether it binds slot x in its body y.
+#[derive(Clone, Copy, Debug, PartialEq, Eq)]
+pub struct Entry {
+    pub x: Operand,
+    pub y: Operand,
+    pub yields: Sort,
+    pub binds: bool,
+}
 
-// .. or is the number of a slot, or of a variable, an array or an earlier node of that type: an integer one has 1 more than a Boolean one.
-const SLOT: u8 = 4;
+macro_rules! kind {
+    ($x:ident, $y:ident, $yields:ident) => {
+        Entry {
+            x: Operand::$x,
+            y: Operand::$y,
+            yields: Sort::$yields,
+            binds: false,
+        }
+    };
+    ($x:ident, $y:ident, $yields:ident, binds) => {
+        Entry {
+            binds: true,
+            ..kind!($x, $y, $yields)
+        }
+    };
+}
 
-const BOOLEAN_VARIABLE: u8 = 5;
+// So many numbers are given to kinds, from 0 on.
+pub const COUNT: usize = 31;
 
-const INTEGER_VARIABLE: u8 = 6;
-
-pub const BOOLEAN_ARRAY: u8 = 7;
-
-pub const INTEGER_ARRAY: u8 = 8;
-
-pub const BOOLEAN_NODE: u8 = 9;
-
-pub const INTEGER_NODE: u8 = 10;
-
-// What a kind yields.
-const BOOLEAN: u8 = 0;
-
-const INTEGER: u8 = 1;
-
-// Whether a kind binds slot x in its body y.
-const NONE: u8 = 0;
-
-const BINDS: u8 = 1;
-
-// The places in an entry.
-pub const X: usize = 0;
-
-pub const Y: usize = 1;
-
-pub const YIELDS: usize = 2;
-
-pub const BINDING: usize = 3;
-
-// The bytes of an entry.
-pub const ENTRY: usize = 4;
-
-// The kinds in the order of their numbers: what x holds, what y holds, what the kind yields, whether it binds.
-const KINDS: [u8; 124] = [
-    MISSING,
-    MISSING,
-    BOOLEAN,
-    NONE, // 0: does not exist
-    ANY_NUMBER,
-    UNUSED,
-    INTEGER,
-    NONE, // 1: constant
-    TRUTH_VALUE,
-    UNUSED,
-    BOOLEAN,
-    NONE, // 2: truth constant
-    INTEGER_VARIABLE,
-    UNUSED,
-    INTEGER,
-    NONE, // 3: variable
-    BOOLEAN_VARIABLE,
-    UNUSED,
-    BOOLEAN,
-    NONE, // 4: Boolean variable
-    SLOT,
-    UNUSED,
-    INTEGER,
-    NONE, // 5: slot
-    INTEGER_NODE,
-    INTEGER_NODE,
-    INTEGER,
-    NONE, // 6: add
-    INTEGER_NODE,
-    INTEGER_NODE,
-    INTEGER,
-    NONE, // 7: subtract
-    INTEGER_NODE,
-    INTEGER_NODE,
-    INTEGER,
-    NONE, // 8: multiply
-    INTEGER_NODE,
-    INTEGER_NODE,
-    INTEGER,
-    NONE, // 9: div
-    INTEGER_NODE,
-    INTEGER_NODE,
-    INTEGER,
-    NONE, // 10: mod
-    INTEGER_NODE,
-    UNUSED,
-    INTEGER,
-    NONE, // 11: negate
-    INTEGER_NODE,
-    INTEGER_NODE,
-    INTEGER,
-    NONE, // 12: min
-    INTEGER_NODE,
-    INTEGER_NODE,
-    INTEGER,
-    NONE, // 13: max
-    BOOLEAN_NODE,
-    UNUSED,
-    INTEGER,
-    NONE, // 14: boolToInt
-    INTEGER_ARRAY,
-    INTEGER_NODE,
-    INTEGER,
-    NONE, // 15: lookup
-    BOOLEAN_ARRAY,
-    INTEGER_NODE,
-    BOOLEAN,
-    NONE, // 16: Boolean lookup
-    SLOT,
-    INTEGER_NODE,
-    INTEGER,
-    BINDS, // 17: sum
-    MISSING,
-    MISSING,
-    BOOLEAN,
-    NONE, // 18: does not exist
-    MISSING,
-    MISSING,
-    BOOLEAN,
-    NONE, // 19: does not exist
-    BOOLEAN_NODE,
-    BOOLEAN_NODE,
-    BOOLEAN,
-    NONE, // 20: and
-    BOOLEAN_NODE,
-    BOOLEAN_NODE,
-    BOOLEAN,
-    NONE, // 21: or
-    BOOLEAN_NODE,
-    BOOLEAN_NODE,
-    BOOLEAN,
-    NONE, // 22: implies
-    BOOLEAN_NODE,
-    BOOLEAN_NODE,
-    BOOLEAN,
-    NONE, // 23: iff
-    BOOLEAN_NODE,
-    UNUSED,
-    BOOLEAN,
-    NONE, // 24: not
-    INTEGER_NODE,
-    INTEGER_NODE,
-    BOOLEAN,
-    NONE, // 25: =
-    INTEGER_NODE,
-    INTEGER_NODE,
-    BOOLEAN,
-    NONE, // 26: ≠
-    INTEGER_NODE,
-    INTEGER_NODE,
-    BOOLEAN,
-    NONE, // 27: ≤
-    INTEGER_NODE,
-    INTEGER_NODE,
-    BOOLEAN,
-    NONE, // 28: <
-    SLOT,
-    BOOLEAN_NODE,
-    BOOLEAN,
-    BINDS, // 29: exists
-    SLOT,
-    BOOLEAN_NODE,
-    BOOLEAN,
-    BINDS, // 30: forall
+// The kinds in the order of their numbers.
+const KINDS: [Entry; COUNT] = [
+    kind!(Missing, Missing, Boolean), // 0: does not exist
+    kind!(AnyNumber, Unused, Integer), // 1: constant
+    kind!(TruthValue, Unused, Boolean), // 2: truth constant
+    kind!(IntegerVariable, Unused, Integer), // 3: variable
+    kind!(BooleanVariable, Unused, Boolean), // 4: Boolean variable
+    kind!(Slot, Unused, Integer), // 5: slot
+    kind!(IntegerNode, IntegerNode, Integer), // 6: add
+    kind!(IntegerNode, IntegerNode, Integer), // 7: subtract
+    kind!(IntegerNode, IntegerNode, Integer), // 8: multiply
+    kind!(IntegerNode, IntegerNode, Integer), // 9: div
+    kind!(IntegerNode, IntegerNode, Integer), // 10: mod
+    kind!(IntegerNode, Unused, Integer), // 11: negate
+    kind!(IntegerNode, IntegerNode, Integer), // 12: min
+    kind!(IntegerNode, IntegerNode, Integer), // 13: max
+    kind!(BooleanNode, Unused, Integer), // 14: boolToInt
+    kind!(IntegerArray, IntegerNode, Integer), // 15: lookup
+    kind!(BooleanArray, IntegerNode, Boolean), // 16: Boolean lookup
+    kind!(Slot, IntegerNode, Integer, binds), // 17: sum
+    kind!(Missing, Missing, Boolean), // 18: does not exist
+    kind!(Missing, Missing, Boolean), // 19: does not exist
+    kind!(BooleanNode, BooleanNode, Boolean), // 20: and
+    kind!(BooleanNode, BooleanNode, Boolean), // 21: or
+    kind!(BooleanNode, BooleanNode, Boolean), // 22: implies
+    kind!(BooleanNode, BooleanNode, Boolean), // 23: iff
+    kind!(BooleanNode, Unused, Boolean), // 24: not
+    kind!(IntegerNode, IntegerNode, Boolean), // 25: =
+    kind!(IntegerNode, IntegerNode, Boolean), // 26: ≠
+    kind!(IntegerNode, IntegerNode, Boolean), // 27: ≤
+    kind!(IntegerNode, IntegerNode, Boolean), // 28: <
+    kind!(Slot, BooleanNode, Boolean, binds), // 29: exists
+    kind!(Slot, BooleanNode, Boolean, binds), // 30: forall
 ];
 
 // The table is document 01's.
-pub fn entries() -> [u8; 124]
+pub fn entries() -> [Entry; COUNT]
     ensures { result ≡ entries_of kinds }
 {
     KINDS
 }
 
 // The row of a kind number in the table; those that do not exist share row 0.
+#[tactic(auto, unfolding(crate::specs::Entries::row_of))]
 pub fn row(number: u8) -> usize
     ensures { result ≡ row_of number }
 {
-    if number < 31 { number as usize } else { 0 }
+    let number = usize::from(number);
+    if number < COUNT { number } else { 0 }
+}
+
+// Whether a field's number names one of `count` things: "a negative number names nothing".
+pub fn names(count: u16, x: i32) -> bool
+    ensures { result ≡ (non_neg x && ltb (nat_abs x) count) }
+{
+    // Without a branch the two tests become one comparison.
+    (0 <= x) & (x < i32::from(count))
 }

@@ -1,5 +1,5 @@
 pub mod Checked
 pub mod Order
 pub mod Runs
+pub mod Tables
 pub mod Walked
-pub mod Words

@@ -1,68 +1,83 @@
--- A number's decimal digits: one case for each way that the code goes, and how many there are.
-use mathlib.Core.Path.{◌≡◌, refl}
-use Prim.Native.Nat.{ℕ, zero, suc, ◌+◌, ◌-◌, ◌/◌, ◌%◌, ◌≤◌, ◌<◌}
-use native.Mathlib.Nat.{not-suc-le-zero}
-use native.Mathlib.Omega.{arith}
-use mathlib.Core.Bool.{Bool, true, false, cond}
-use mathlib.Core.List.{List, [], ◌∷◌, ◌++◌}
+-- A number's decimal digits are those that std writes of it: the last stands behind the others, and there are ten at most, three of a byte.
+use Rattle.std.proofs.Common.{◌≡◌, ℕ, suc, ◌+◌, ◌/◌, ◌%◌, ◌<◌, ◌≤◌, ◌^◌, true, false, [], ◌∷◌, ◌++◌, length, ℤ, pos, negsuc, refl, sym, ap, ◌∙◌, arith, length-append, w64, to_z, of_z, mod-eq_of_lt}
 use borrow.Author.Tests.{lt-ltb, le-ltb}
-use lib.Dec.{ltb}
-use lib.IntN.{ℤ, pos, negsuc}
-use lib.ListN.{length, length-append}
-use Rattle.numbers.proofs.Tests.{cond_cases}
+use Rattle.std.specs.Prelude.{unsigned_abs}
+use Rattle.std.specs.Fmt as Fmt
+use Rattle.std.proofs.lemmas.Bool.{false≢true}
+use lib.Signed.{lt_z, mag}
+use mir.Val.{SFits}
+use mir.Facts.{to_z-of_z}
+use Rattle.std.proofs.lemmas.Fmt.{decimal_from_appends, decimal_digit, decimal_step, length-decimal-le}
 use Rattle.answers.specs.Listing.{digits, decimal, signed_decimal}
 
-digits-suc : (p w : ℕ) → digits (suc p) w ≡ cond (ltb w 10) ((48 + w) ∷ []) (digits p (w / 10) ++ ((48 + w % 10) ∷ []))
+digits_last : (k n : ℕ) → n < 10 → digits (suc k) n ≡ (48 + n) ∷ []
 unfolding digits
-digits-suc p w = go (ltb w 10)
-  where
-    go : (b : Bool) → ◌≡◌ {A = List ℕ} (elim b [ true ↦ (48 + w) ∷ [] | false ↦ digits p (w / 10) ++ ((48 + w % 10) ∷ []) ]) (cond b ((48 + w) ∷ []) (digits p (w / 10) ++ ((48 + w % 10) ∷ [])))
-    go true = refl
-    go false = refl
+digits_last k n h = rw (digits, lt-ltb n 10 h)
 
--- no place
-pub digits-none : {p : ℕ} (w : ℕ) → p ≡ 0 → digits p w ≡ []
+digits_more : (k n : ℕ) → 10 ≤ n → digits (suc k) n ≡ digits k (n / 10) ++ ((48 + n % 10) ∷ [])
 unfolding digits
-digits-none w e = rw e
+digits_more k n h = rw (digits, le-ltb n 10 h)
 
--- one digit
-pub digits-one : (p w : ℕ) → 0 < p → w < 10 → digits p w ≡ (48 + w) ∷ []
-digits-one zero w h l = absurd (not-suc-le-zero h)
-digits-one (suc p) w h l = rw (digits-suc p w, lt-ltb w 10 l)
+module _ (w : ℕ) (small : w < 2 ^ 32) where
+  length-le : (k : ℕ) → 0 < k → w < 10 ^ k → length (Fmt.decimal w) ≤ k
+  length-le k h l = length-decimal-le k w h l (omega arith)
 
--- the digits before the last, and the last
-pub digits_more : (p w : ℕ) → 0 < p → 10 ≤ w → digits p w ≡ digits (p - 1) (w / 10) ++ ((48 + w % 10) ∷ [])
-digits_more zero w h l = absurd (not-suc-le-zero h)
-digits_more (suc p) w h l = let e : suc p - 1 ≡ p = omega arith in rw (digits-suc p w, le-ltb w 10 l, e)
+  decimal_is : decimal w ≡ Fmt.decimal w
+  unfolding decimal
+  decimal_is = decimal_from_appends digits (record { one = digits_last; more = digits_more }) 10 w (omega arith) (length-le 10 (omega arith) (omega arith))
 
--- ---- how many there are
+  pub length-decimal : length (decimal w) ≤ 10
+  length-decimal = rw decimal_is (length-le 10 (omega arith) (omega arith))
 
-more-digits : (p w n : ℕ) → 1 ≤ n → length (digits p (w / 10)) < n → length (digits (suc p) w) ≤ n
-more-digits p w n h l =
-    rw digits-suc
-    (cond_cases (λ (ds : List ℕ). length ds ≤ n) (ltb w 10) (λ t. h) (λ t. simp length-append (omega arith)))
+  pub length-byte : w < 256 → length (decimal w) ≤ 3
+  length-byte h = rw decimal_is (length-le 3 (omega arith) (omega arith))
 
--- No more than there are places.
-pub at_most : (p w : ℕ) → length (digits p w) ≤ p
-unfolding digits
-at_most zero w = omega arith
-at_most (suc p) w = more-digits p w (suc p) (omega arith) (omega (arith, at_most p (w / 10)))
+  pub decimal_last : w < 10 → decimal w ≡ (48 + w % 10) ∷ []
+  decimal_last h = decimal_is ∙ decimal_digit w h ∙ ap (λ d. (48 + d) ∷ []) (sym (mod-eq_of_lt h))
 
-pub length-decimal : (w : ℕ) → length (decimal w) ≤ 10
-unfolding decimal
-length-decimal w = at_most 10 w
+module _ (w : ℕ) (small : w < 2 ^ 32) where
+  pub decimal_more : 10 ≤ w → decimal w ≡ decimal (w / 10) ++ ((48 + w % 10) ∷ [])
+  decimal_more h = decimal_is w small ∙ decimal_step w h (omega arith) ∙ ap (λ ds. ds ++ ((48 + w % 10) ∷ [])) (sym (decimal_is (w / 10) (omega arith)))
 
-pub length-signed : (z : ℤ) → length (signed_decimal z) ≤ 11
+  pub length-more : 10 ≤ w → length (decimal w) ≡ length (decimal (w / 10)) + 1
+  length-more h = ap length (decimal_more h) ∙ length-append (decimal (w / 10)) ((48 + w % 10) ∷ [])
+
+-- ---- signed numbers
+
+below : (x : ℤ) → lt_z x (pos 0) ≡ true → signed_decimal x ≡ 45 ∷ decimal (unsigned_abs x)
 unfolding signed_decimal
-length-signed (pos n) = omega (arith, length-decimal n)
-length-signed (negsuc n) = omega (arith, length-decimal (suc n))
+below (pos n) h = absurd (false≢true (sym (le-ltb n 0 (omega arith)) ∙ h))
+below (negsuc n) h = refl
 
-one-digit : (p w : ℕ) → w < 10 → length (digits (suc p) w) ≤ 1
-one-digit p w h = rw (digits-one (suc p) w (omega arith) h) (omega arith)
+above : (x : ℤ) → lt_z x (pos 0) ≡ false → signed_decimal x ≡ decimal (unsigned_abs x)
+unfolding signed_decimal
+above (pos n) h = refl
+above (negsuc n) h = absurd (false≢true (sym h))
 
--- A byte has three digits at most.
-pub length-byte : (w : ℕ) → w < 256 → length (decimal w) ≤ 3
-unfolding decimal
-length-byte w h =
-    let tens = more-digits 8 (w / 10) 2 (omega arith) (omega (arith, one-digit 7 (w / 10 / 10) (omega arith))) in
-    more-digits 9 w 3 (omega arith) (omega (arith, tens))
+-- The code reads x from 64 bits.
+module _ {x : ℤ} (fits : SFits w64 x) where
+  pub signed_below : lt_z (to_z w64 (of_z w64 x)) (pos 0) ≡ true → signed_decimal x ≡ 45 ∷ decimal (unsigned_abs (to_z w64 (of_z w64 x)))
+  signed_below h = rw (to_z-of_z fits) (below x (rw (to_z-of_z fits) at h))
+
+  pub signed_above : lt_z (to_z w64 (of_z w64 x)) (pos 0) ≡ false → signed_decimal x ≡ decimal (unsigned_abs (to_z w64 (of_z w64 x)))
+  signed_above h = rw (to_z-of_z fits) (above x (rw (to_z-of_z fits) at h))
+
+-- ---- the fields of a line, which the code takes as numbers of 64 bits
+
+-- What the code reads of z, which is x.
+module _ {z x : ℤ} (fits : mag z < 2 ^ 63) (e : z ≡ x) where
+  pub field_is : to_z w64 (of_z w64 z) ≡ x
+  field_is = to_z-of_z {w = w64} (record { sfits = fits }) ∙ e
+
+  pub length-field : unsigned_abs x < 2 ^ 32 → length (signed_decimal (to_z w64 (of_z w64 z))) ≤ 11
+  unfolding signed_decimal
+  length-field h = rw field_is (go x h)
+    where
+      go : (y : ℤ) → unsigned_abs y < 2 ^ 32 → length (signed_decimal y) ≤ 11
+      go (pos n) h = omega (arith, length-decimal n h)
+      go (negsuc n) h = omega (arith, length-decimal (suc n) h)
+
+module _ {z : ℤ} {n : ℕ} (fits : mag z < 2 ^ 63) (e : z ≡ pos n) where
+  pub length-byte_field : n < 256 → length (signed_decimal (to_z w64 (of_z w64 z))) ≤ 3
+  unfolding signed_decimal
+  length-byte_field h = rw (field_is fits e) (length-byte n (omega arith) h)

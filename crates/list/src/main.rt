@@ -11,6 +11,7 @@ use std::io::{Read, Write};
 const MOST_INPUT: usize = 60_014;
 
 // Reads until the buffer is full or the input ends, and gives how many bytes it put at the start. A read may give less than it is asked for.
+// Kept: a loop over `read`, since `read_exact` says nothing of a shorter input and `read_to_end` asks for the heap, where memory here is fixed.
 fn read_full<R: Read>(input: &mut R, buffer: &mut [u8]) -> io::Result<usize>
     ensures bound { IfOk result (λ n. n ≤ length buffer.new) }
     ensures bytes { IfOk result (λ n. Consumes (R.remaining input.old) (R.remaining input.new) (take n buffer.new)) }

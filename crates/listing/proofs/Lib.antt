@@ -1,3 +1,2 @@
 pub mod Long
-pub mod Pieces
 pub mod Told

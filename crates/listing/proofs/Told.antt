@@ -1,13 +1,14 @@
 -- What a translation gives tells the listing's text.
 use mathlib.Core.Path.{◌≡◌, refl, ap, ◌∙◌}
-use Prim.Native.Nat.{ℕ, zero, suc, ◌*◌, ◌≤◌, ◌<◌}
+use Prim.Native.Nat.{ℕ, zero, suc, ◌*◌, ◌/◌, ◌≤◌, ◌<◌}
 use native.Mathlib.Nat.{mul-div_right, mul-suc, add-zero}
 use native.Mathlib.Omega.{arith}
-use mathlib.Core.Bool.{false}
+use mathlib.Core.Bool.{false, cond}
+use lib.Dec.{eqb}
 use mathlib.Core.List.{List, ◌++◌}
 use mathlib.Core.Option.{Option, none, some}
 use borrow.Author.Tests.{ne_eqb}
-use lib.ListN.{length, length-append}
+use lib.ListN.{length, length-append, replicate, length-replicate}
 use Rattle.numbers.specs.Limits.{most_bytes}
 use Rattle.table.specs.Records.{record_size, byte_at}
 use Rattle.table.proofs.Alike.{Alike, Alike-left, kind_at-alike, aux_at-alike, x_at-alike, y_at-alike}
@@ -20,7 +21,15 @@ use Rattle.answers.proofs.Passed.{check_fault≡none→Passed}
 use Rattle.answers.proofs.NewRecords.{length-translation}
 use Rattle.answers.proofs.Numbers.{up_to→1≤, translate_order-numbered}
 use Rattle.lines.specs.Pieces.{refusal_text}
-use Rattle.listing.specs.Texts.{text_for, text_of}
+
+-- ---- the text for what a translation gives
+
+-- For its number, record and length, and the bytes that it left: the records of the new table, or the refusal.
+unfoldable pub text_for : ℕ → ℕ → ℕ → List ℕ → List ℕ
+text_for number at written new = cond (eqb number 0) (lines_of new (written / record_size)) (refusal_text number at)
+
+abbrev pub text_of : Answer → List ℕ → List ℕ
+text_of a new = text_for a.number a.at a.length_written new
 
 -- ---- the lines of records at the front of a longer byte string
 
@@ -81,12 +90,22 @@ pub translate-within : (choice : ℕ) (table lent : List ℕ) → Within (transl
 unfolding translate translation_done
 translate-within choice table lent = outcome-within _ (translation table (reading_chosen choice)) lent
 
--- ---- the answer of the code
+-- ---- what the code is given for 60,000 bytes of 0
 
--- The text by an answer's number, record and length is the listing, and its length lies within the lent bytes.
-module _ (choice : ℕ) (table lent : List ℕ) {a : Answer} {new : List ℕ} (e : record { answer = a; lent = new } ≡ translate choice table lent) where
-  pub answer-text : {number at written : ℕ} → number ≡ a.number → at ≡ a.at → written ≡ a.length_written → length lent ≡ most_bytes → text_for number at written new ≡ listing_of choice table
-  answer-text p q r l = rw (p, q, r) (ap texts_of e ∙ text-listed choice table lent l)
+module _ (choice : ℕ) (table : List ℕ) {a : Answer} {new : List ℕ} (e : record { answer = a; lent = new } ≡ translate choice table (replicate 60_000 0)) where
+  text-told : text_of a new ≡ listing_of choice table
+  text-told = ap texts_of e ∙ text-listed choice table (replicate 60_000 0) (length-replicate {A = ℕ} 60_000 0)
 
+  -- At number 0 the lines of the new table are the listing;
+  pub lines-told : {written : ℕ} → a.number ≡ 0 → written ≡ a.length_written → lines_of new (written / record_size) ≡ listing_of choice table
+  unfolding text_for
+  lines-told z w = rw w (rw z at text-told)
+
+  -- at another the line of the refusal is.
+  pub refusal-told : {number at : ℕ} → (number ≡ 0 → ⊥) → number ≡ a.number → at ≡ a.at → refusal_text number at ≡ listing_of choice table
+  unfolding text_for
+  refusal-told {number} z n k = rw (n, k) (rw (ne_eqb a.number 0 (rw n at z)) at text-told)
+
+  -- What is written lies within the bytes.
   pub answer-within : a.length_written ≤ length new
-  answer-within = rw (ap (λ (o : Outcome). o.answer.length_written) e, ap (λ (o : Outcome). length o.lent) e) (translate-within choice table lent)
+  answer-within = rw (ap (λ (o : Outcome). o.answer.length_written) e, ap (λ (o : Outcome). length o.lent) e) (translate-within choice table (replicate 60_000 0))

@@ -2,63 +2,35 @@
 #![tactic(auto)]
 
 ghost use Rattle.std.specs.Prelude.{◌≡◌, ◌++◌, ◌≤◌, length, drop};
-ghost use Rattle.std.proofs.lemmas.List.Edits.{sets};
-ghost use Rattle.numbers.specs.Limits.{most_bytes};
 ghost use Rattle.answers.specs.Listing.{choice_of, listing_of, listing};
-ghost use Rattle.listing.specs.Texts.{longest_text, text_for};
+ghost use Rattle.listing.specs.Texts.{longest_text};
 
-use lines::{put_lines, put_refusal};
+use lines::{Line, put_lines};
 use table::{MOST_BYTES, RECORD_SIZE};
 use translation::translate;
+use verdict::Refused;
 
 // The longest text.
 pub const MOST_TEXT: usize = 175_000;
 
-// The records of the new table, of `written` bytes, or the refusal.
-fn put_text(number: u32, at: u32, written: usize, new: &[u8], text: &mut [u8]) -> usize
-    requires written_in_bounds { written ≤ length new.now }
-    requires len_bound { length new.now ≤ most_bytes }
-    requires longest_text_in_bounds { longest_text ≤ length text.old }
-    ensures value { result ≡ length (text_for number at written new.now) }
-    ensures text_after { text.new ≡ sets text.old 0 (text_for number at written new.now) }
-    ensures upper_bound { result ≤ longest_text }
-{
-    if number == 0 {
-        put_lines(new, written / RECORD_SIZE, text)
-    } else {
-        put_refusal(text, number, at)
-    }
-}
-
-// The text for a choice and a table.
-fn list_table(choice: u32, table: &[u8], text: &mut [u8]) -> usize
-    requires { longest_text ≤ length text.old }
-    ensures value { result ≡ length (listing_of choice table.now) }
-    ensures text_after { text.new ≡ sets text.old 0 (listing_of choice table.now) }
-    ensures upper_bound { result ≤ longest_text }
-{
-    let mut new = [0u8; MOST_BYTES];
-    let t = translate(choice, table, &mut new);
-    let written = translation::length(t);
-    put_text(
-        translation::number(t),
-        translation::record(t),
-        written as usize,
-        &new,
-        text,
-    )
-}
-
 // "one digit of choice (any other byte, or none, counts as choice 0)"
+#[tactic(auto, unfolding(answers::specs::Listing::choice_of))]
 fn choice_of(b: u8) -> u32
     ensures { result ≡ choice_of b }
 {
-    if b < b'0' {
-        0
-    } else if b > b'9' {
-        0
-    } else {
-        (b - b'0') as u32
+    match b {
+        b'0'..=b'9' => u32::from(b - b'0'),
+        _ => 0,
+    }
+}
+
+// The choice that the input begins with, and the table behind it.
+fn choice_and_table(input: &[u8]) -> (u32, &[u8])
+    ensures { listing_of result.0 result.1.now ≡ listing input.now }
+{
+    match input.split_first() {
+        Some((digit, table)) => (choice_of(*digit), table),
+        None => (0, input),
     }
 }
 
@@ -69,9 +41,15 @@ pub fn list(input: &[u8], text: &mut [u8; MOST_TEXT]) -> usize
     ensures text_after { text.new ≡ listing input.now ++ drop result text.old }
     ensures upper_bound { result ≤ longest_text }
 {
-    if input.len() == 0 {
-        list_table(0, input, text)
-    } else {
-        list_table(choice_of(input[0]), &input[1..], text)
+    let (choice, table) = choice_and_table(input);
+    let mut new = [0u8; MOST_BYTES];
+    match translate(choice, table, &mut new) {
+        Ok(written) => put_lines(&new, written as usize / RECORD_SIZE, text),
+        Err(refusal) => {
+            let line = Line::of_refusal(refusal.number(), refusal.record());
+            let line = line.as_bytes();
+            text[..line.len()].copy_from_slice(line);
+            line.len()
+        }
     }
 }

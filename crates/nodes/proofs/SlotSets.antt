@@ -2,13 +2,14 @@
 use mathlib.Core.Path.{◌≡◌, refl, sym, ap, ◌∙◌}
 use mathlib.Core.Bool.{Bool, true, false, cond, not, ◌&&◌, ◌||◌, beq}
 use mathlib.Core.Logic.{⊎_elim}
-use Prim.Native.Nat.{ℕ, zero, suc, ◌+◌, ◌-◌, ◌*◌, ◌/◌, ◌%◌, ◌^◌, ◌≤◌, ◌<◌}
+use Prim.Native.Nat.{ℕ, zero, suc, ◌+◌, ◌-◌, ◌*◌, ◌/◌, ◌%◌, ◌^◌, ◌<◌}
 use native.Mathlib.Nat.{not-suc-le-zero, le_of_suc-le-suc, eq-or-lt_of_le}
 use native.Mathlib.Omega.{arith}
 use lib.Bits.{bit_and, bit_or, and_shr, and_mod, or_shr, or_mod}
 use lib.Pow.{mod-pow-add, pow_pos}
 use borrow.Author.Tests.{ne_eqb}
 use lib.Dec.{eqb}
+use Rattle.kinds.specs.declared.Entry.{Entry}
 use Rattle.operands.specs.Facts.{joined_of}
 use Rattle.nodes.specs.Known.{has}
 
@@ -43,13 +44,13 @@ pub has_one : (s t : ℕ) → s < 16 → t < 16 → has t (2 ^ s) ≡ eqb t s
 unfolding has upto
 has_one = agree (λ s t. has t (2 ^ s)) (λ s t. eqb t s) refl
 
-pub has-others : (s t : ℕ) → s < 16 → t < 16 → has t (4_294_967_295 - 2 ^ s) ≡ not (eqb t s)
+pub has-others : (s t : ℕ) → s < 16 → t < 16 → has t (65_535 - 2 ^ s) ≡ not (eqb t s)
 unfolding has upto
-has-others = agree (λ s t. has t (4_294_967_295 - 2 ^ s)) (λ s t. not (eqb t s)) refl
+has-others = agree (λ s t. has t (65_535 - 2 ^ s)) (λ s t. not (eqb t s)) refl
 
-pub has_all : (t : ℕ) → t < 16 → has t 4_294_967_295 ≡ true
+pub has_all : (t : ℕ) → t < 16 → has t 65_535 ≡ true
 unfolding has upto
-has_all t h = agree (λ s t. has t 4_294_967_295) (λ s t. true) refl 0 t (omega arith) h
+has_all t h = agree (λ s t. has t 65_535) (λ s t. true) refl 0 t (omega arith) h
 
 pub has-none : (t : ℕ) → t < 16 → has t 0 ≡ false
 unfolding has upto
@@ -88,12 +89,9 @@ has-shared t a b =
     ∙ and-bit (a / 2 ^ t % 2) (b / 2 ^ t % 2) (omega arith) (omega arith)
 
 -- the slots of a joined fact
-pub has-joined : (t a b binds tag : ℕ) → tag ≤ 1
-    → has t (joined_of a b binds tag / 2) ≡ ((has t (a / 2) || has t (b / 2)) && has t (4_294_967_295 - cond (eqb binds 1) (a / 2) 0))
+pub has-joined : (t a b : ℕ) (k : Entry) → has t (joined_of a b k).free ≡ ((has t a || has t b) && has t (65_535 - cond k.binds a 0))
 unfolding joined_of
-has-joined t a b binds tag h =
-    ap (has t) (omega arith) ∙ has-shared t (bit_or (a / 2) (b / 2)) (4_294_967_295 - cond (eqb binds 1) (a / 2) 0)
-    ∙ ap (λ (o : Bool). o && has t (4_294_967_295 - cond (eqb binds 1) (a / 2) 0)) (has_either t (a / 2) (b / 2))
+has-joined t a b k = has-shared t (bit_or a b) (65_535 - cond k.binds a 0) ∙ ap (λ (o : Bool). o && has t (65_535 - cond k.binds a 0)) (has_either t a b)
 
 -- ---- no slot among the first n
 

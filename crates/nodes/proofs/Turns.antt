@@ -3,25 +3,33 @@ use mathlib.Core.Path.{◌≡◌, refl, sym, ap, ◌∙◌}
 use mathlib.Core.Bool.{Bool, true, false}
 use mathlib.Core.List.{List, [], ◌∷◌}
 use mathlib.Core.Option.{Option, none, some}
-use Prim.Native.Nat.{ℕ, zero, suc, ◌+◌, ◌*◌, ◌-◌, ◌≤◌, ◌<◌}
 use mathlib.Core.Logic.{◌⊎◌, ⊎_elim}
+use Prim.Native.Nat.{ℕ, zero, suc, ◌+◌, ◌-◌, ◌<◌}
 use native.Mathlib.Nat.{add-zero, not-suc-le-zero, le_of_suc-le-suc, eq-or-lt_of_le}
 use native.Mathlib.Numerals.{add-one}
 use native.Mathlib.Omega.{arith}
-use borrow.Author.Tests.{lt-ltb}
-use lib.IntN.{nat_abs}
+use lib.Dec.{eqb}
+use lib.IntN.{ℤ, nat_abs}
 use lib.ListN.{length, get_or, set, drop, length-drop, length-set}
 use lib.Seq.{get_or-drop, drop-drop, get_or-set_same, get_or-set_other}
-use Rattle.table.specs.Records.{AR, record_size, record_count, word_at, marked, y_at, signed}
-use Rattle.language.specs.Syntax.{boolean, integer}
-use Rattle.table.specs.Kinds.{Field, unused, any_number, truth_value, variable_number, slot_number, array_number, node_number, Kind, kinds, kind_of}
-use Rattle.kinds.specs.Entries.{code_of, code_x, code_y, tag_of, binds_of, entries_of, row_of}
-use Rattle.kinds.proofs.Columns.{row_within, x-at-row, y-at-row, yields-at-row, binds_at_row}
-use Rattle.answers.specs.Sections.{arrays_from, arrays_at, array_records, behind_array, node_count}
+use Rattle.std.specs.Prelude as Std
+use Rattle.table.specs.Records.{AR, record_count, marked, kind_at, aux_at, x_at, y_at}
+use Rattle.table.specs.Kinds.{Kind, kinds, kind_of}
+use Rattle.table.specs.Parts.{parts_of}
+use Rattle.table.specs.declared.Record.{Record}
+use Rattle.kinds.specs.declared.Sort.TheVariants.{Boolean}
+use Rattle.kinds.specs.declared.Entry.{Entry}
+use Rattle.kinds.specs.Entries.{operand_x, operand_y, entry_of, entries_of, row_of}
+use Rattle.kinds.proofs.Rows.{entry-at-row}
+use Rattle.answers.specs.Sections.{arrays_from, arrays_at, array_records, behind_array, nodes_at, node_count}
+use Rattle.answers.specs.Check.{node_fault}
 use Rattle.answers.proofs.RunEnds.{arrays-on}
-use Rattle.operands.specs.Facts.{bases_of, limits_of, place_of}
-use Rattle.nodes.specs.Known.{NodeFact, Known}
-use Rattle.nodes.proofs.Operands.{tag_small, operand}
+use Rattle.operands.specs.declared.Fact.{Fact}
+use Rattle.operands.specs.declared.Known.{Known}
+use Rattle.operands.specs.Facts.{closed, ranges_of, noted, IsWithin, looked, made_of, fault_of}
+use Rattle.nodes.specs.Known.{NodeFact, FactsKnown, known_at, IsKnown}
+use Rattle.nodes.proofs.Operands.{names_nothing, operand}
+use Rattle.nodes.proofs.NodeStep.{Found, node-refused, node_made}
 
 -- ---- arrays
 
@@ -55,21 +63,21 @@ module _ (bs : List ℕ) where
     array-record =
         ap (λ (i : ℕ). get_or (array_records bs) i 0) (sym (add-zero a)) ∙ sym (get_or-drop a (array_records bs) 0 0) ∙ ap (λ (l : List ℕ). get_or l 0 0) (at.rest ∙ here.1)
 
-    pub next-array : {y c : ℕ} → y ≡ word_at bs (record_size * p + 8) → c ≡ nat_abs (signed y) → ArrayAt bs (a + 1) (p + 1 + c)
-    unfolding behind_array y_at
-    next-array {c = c} ey ec =
+    pub next-array : {c : ℕ} → c ≡ nat_abs (y_at bs p) → ArrayAt bs (a + 1) (p + 1 + c)
+    unfolding behind_array
+    next-array {c} ec =
         record {
           rest =
               sym (drop-drop 1 a (array_records bs)) ∙ ap (drop 1) (at.rest ∙ here.1)
               ∙ ap (λ (k : ℕ). arrays_from bs k (suc p + nat_abs (y_at bs p))) {y = record_count bs - (a + 1)} (omega arith)
-              ∙ ap (arrays_from bs (record_count bs - (a + 1))) {y = p + 1 + c} (rw (← ey, ← ec) (omega arith));
+              ∙ ap (arrays_from bs (record_count bs - (a + 1))) {y = p + 1 + c} (rw ec (omega arith));
         }
 
 -- ---- nodes
 
-module _ (bs : List ℕ) (n : ℕ) (facts : List ℕ) where
+module _ (bs : List ℕ) (n : ℕ) (facts : List Fact) where
   -- one node more
-  pub known_more : Known bs n facts → n < node_count bs → {v : ℕ} → NodeFact bs n v → Known bs (n + 1) (set facts (339 + n) v)
+  known_more : FactsKnown bs n facts → n < node_count bs → {v : Fact} → NodeFact bs n v → FactsKnown bs (n + 1) (set facts (339 + n) v)
   known_more k h {v} f =
       record {
         size = length-set facts (339 + n) v ∙ k.size;
@@ -78,83 +86,94 @@ module _ (bs : List ℕ) (n : ℕ) (facts : List ℕ) where
         few_arrays = k.few_arrays;
         few_nodes = k.few_nodes;
         within = omega arith;
-        at_zero = get_or-set_other facts (339 + n) 0 v 0 (λ e. omega arith) ∙ k.at_zero;
-        at_one = get_or-set_other facts (339 + n) 1 v 0 (λ e. omega arith) ∙ k.at_one;
-        at_number = get_or-set_other facts (339 + n) 2 v 0 (λ e. omega arith) ∙ k.at_number;
-        slots = λ s l. get_or-set_other facts (339 + n) (3 + s) v 0 (λ e. omega (arith, k.few_slots)) ∙ k.slots s l;
-        arrays = λ a l. get_or-set_other facts (339 + n) (19 + a) v 0 (λ e. omega (arith, k.few_arrays)) ∙ k.arrays a l;
-        variables = λ a l. get_or-set_other facts (339 + n) (83 + a) v 0 (λ e. omega (arith, k.few_variables)) ∙ k.variables a l;
+        at_zero = beside 0 (λ e. omega arith) ∙ k.at_zero;
+        at_one = beside 1 (λ e. omega arith) ∙ k.at_one;
+        at_number = beside 2 (λ e. omega arith) ∙ k.at_number;
+        slots = λ s l. beside (3 + s) (λ e. omega (arith, k.few_slots)) ∙ k.slots s l;
+        arrays = λ a l. beside (19 + a) (λ e. omega (arith, k.few_arrays)) ∙ k.arrays a l;
+        variables = λ a l. beside (83 + a) (λ e. omega (arith, k.few_variables)) ∙ k.variables a l;
         nodes = λ m l. go m (eq-or-lt_of_le (le_of_suc-le-suc (rw add-one at l)));
       }
     where
-      go : (m : ℕ) → (m ≡ n) ⊎ (m < n) → NodeFact bs m (get_or (set facts (339 + n) v) (339 + m) 0)
+      beside : (i : ℕ) → ¬ (i ≡ 339 + n) → get_or (set facts (339 + n) v) i (closed Boolean) ≡ get_or facts i (closed Boolean)
+      beside i d = get_or-set_other facts (339 + n) i v (closed Boolean) d
+
+      go : (m : ℕ) → (m ≡ n) ⊎ (m < n) → NodeFact bs m (get_or (set facts (339 + n) v) (339 + m) (closed Boolean))
       go m c =
           ⊎_elim
-          (λ e. rw (e, get_or-set_same facts (339 + n) v 0 (omega (arith, k.size, k.few_nodes))) f)
-          (λ l. rw (get_or-set_other facts (339 + n) (339 + m) v 0 (λ e. omega arith)) (k.nodes m l)) c
+          (λ e. rw (e, get_or-set_same facts (339 + n) v (closed Boolean) (omega (arith, k.size, k.few_nodes))) f)
+          (λ l. rw (beside (339 + m) (λ e. omega arith)) (k.nodes m l)) c
 
-pub limits-more : (bs : List ℕ) (n : ℕ) → set (set (limits_of bs n) 9 (n + 1)) 10 (n + 1) ≡ limits_of bs (n + 1)
-unfolding limits_of
-limits-more bs n = refl
+  noted_at : (v : Fact) → noted (known_at bs n facts) n v ≡ known_at bs (n + 1) (set facts (339 + n) v)
+  unfolding noted ranges_of
+  noted_at v = refl
 
-code_small : (f : Field) → code_of f < 11
-unfolding code_of
-code_small unused = omega arith
-code_small any_number = omega arith
-code_small truth_value = omega arith
-code_small slot_number = omega arith
-code_small (variable_number boolean) = omega arith
-code_small (variable_number integer) = omega arith
-code_small (array_number boolean) = omega arith
-code_small (array_number integer) = omega arith
-code_small (node_number boolean) = omega arith
-code_small (node_number integer) = omega arith
+module _ (bs : List ℕ) (n : ℕ) {known : Known} (k : IsKnown bs n known) where
+  -- what is known with one node more
+  pub noted_known : n < node_count bs → {v : Fact} {more : Known} → NodeFact bs n v → more ≡ noted known n v → IsKnown bs (n + 1) more
+  noted_known h {v} {more} f e =
+      let q : more ≡ known_at bs (n + 1) (set known.facts (339 + n) v) = e ∙ ap (λ (g : Known). noted g n v) k.ranged ∙ noted_at bs n known.facts v in
+      rw q (record { ranged = refl; facts_known = known_more bs n known.facts k.facts_known h f })
 
--- what looking at an operand needs, by its code
-abbrev pub LookOk : List ℕ → ℕ → ℕ → Type 0
-LookOk limits code w = (code < 11) × (w < get_or limits code 0 → place_of bases_of code w < 5_339)
+  -- an operand is looked up within the facts
+  within : (o : Option Kind) (z : ℤ) → IsWithin (known_at bs n known.facts) (operand_x o) z × IsWithin (known_at bs n known.facts) (operand_y o) z
+  unfolding operand_x operand_y ranges_of
+  within none z = (λ e. absurd (no (sym (names_nothing z) ∙ e)), λ e. absurd (no (sym (names_nothing z) ∙ e)))
+    where
+      no : false ≡ true → ⊥
+      no e = cc
+  within (some f) z = ((operand bs n known.facts k.facts_known z f.field_x).place, (operand bs n known.facts k.facts_known z f.field_y).place)
 
-module _ (bs : List ℕ) (n : ℕ) (facts : List ℕ) (known : Known bs n facts) (w : ℕ) (fits : w < 0x1_0000_0000) where
-  field_ok : (f : Field) → LookOk (limits_of bs n) (code_of f) w
-  field_ok f = (code_small f, λ h. (operand bs n facts known w fits f).place (lt-ltb w (get_or (limits_of bs n) (code_of f) 0) h))
+  pub within-x : {kind : Entry} (o : Option Kind) (z : ℤ) → kind ≡ entry_of o → IsWithin known kind.x z
+  unfolding entry_of
+  within-x o z e = rw (e, k.ranged) (within o z).0
 
-  none-ok : LookOk (limits_of bs n) 0 w
-  unfolding limits_of
-  none-ok = (omega arith, λ h. omega arith)
+  pub within-y : {kind : Entry} (o : Option Kind) (z : ℤ) → kind ≡ entry_of o → IsWithin known kind.y z
+  unfolding entry_of
+  within-y o z e = rw (e, k.ranged) (within o z).1
 
-  pub x-look-ok : {limits : List ℕ} {code : ℕ} (o : Option Kind) → limits ≡ limits_of bs n → code ≡ code_x o → LookOk limits code w
-  unfolding code_x
-  x-look-ok none e f = rw (e, f) none-ok
-  x-look-ok (some k) e f = rw (e, f) (field_ok k.field_x)
+-- the entry of a record's kind
+pub entry_is : {l : List Entry} {row kind : ℕ} (number : ℕ) (d : Entry) → l ≡ entries_of kinds → row ≡ row_of kind → kind ≡ number → get_or l row d ≡ entry_of (kind_of number)
+entry_is number d el er ek = rw (el, er, ek) (entry-at-row number d)
 
-  pub y-look-ok : {limits : List ℕ} {code : ℕ} (o : Option Kind) → limits ≡ limits_of bs n → code ≡ code_y o → LookOk limits code w
-  unfolding code_y
-  y-look-ok none e f = rw (e, f) none-ok
-  y-look-ok (some k) e f = rw (e, f) (field_ok k.field_y)
+-- ---- a turn of the loop over the nodes, at record p
 
--- what is read out of the entry of a node's kind
-module _ {l : List ℕ} {row kind number : ℕ} where
-  part_at : (j : ℕ) (part : Option Kind → ℕ) → ((n : ℕ) → get_or (entries_of kinds) (4 * row_of n + j) 0 ≡ part (kind_of n))
-      → l ≡ entries_of kinds → row ≡ row_of kind → kind ≡ number → get_or l (4 * row + j) 0 ≡ part (kind_of number)
-  part_at j part at_row el er ek = rw (el, er) (at_row kind ∙ ap (λ (m : ℕ). part (kind_of m)) ek)
+module _ (bs : List ℕ) (n : ℕ) {known : Known} (k : IsKnown bs n known) {p : ℕ} (ep : p ≡ nodes_at bs + n) {r : Record} (er : r ≡ parts_of bs p) {kind : Entry}
+    (ek : kind ≡ entry_of (kind_of (kind_at bs p))) {x y : Found} (ex : x ≡ looked known kind.x r.x) (ey : y ≡ looked known kind.y r.y) {m : Std.Option Fact}
+    (em : m ≡ made_of (eqb r.aux 0) kind x y) where
+  abbrev here_known : Known
+  here_known = known_at bs n known.facts
 
-  pub x-coded : l ≡ entries_of kinds → row ≡ row_of kind → kind ≡ number → get_or l (4 * row + 0) 0 ≡ code_x (kind_of number)
-  x-coded = part_at 0 code_x x-at-row
+  o : Option Kind
+  o = kind_of (kind_at bs (nodes_at bs + n))
 
-  pub y-coded : l ≡ entries_of kinds → row ≡ row_of kind → kind ≡ number → get_or l (4 * row + 1) 0 ≡ code_y (kind_of number)
-  y-coded = part_at 1 code_y y-at-row
+  same-kind : kind ≡ entry_of o
+  unfolding o
+  same-kind = ek ∙ ap (λ (q : ℕ). entry_of (kind_of (kind_at bs q))) ep
 
-  pub yields-coded : l ≡ entries_of kinds → row ≡ row_of kind → kind ≡ number → get_or l (4 * row + 2) 0 ≡ tag_of (kind_of number)
-  yields-coded = part_at 2 tag_of yields-at-row
+  same_record : r ≡ parts_of bs (nodes_at bs + n)
+  same_record = er ∙ ap (parts_of bs) ep
 
-  pub binds_coded : l ≡ entries_of kinds → row ≡ row_of kind → kind ≡ number → get_or l (4 * row + 3) 0 ≡ binds_of (kind_of number)
-  binds_coded = part_at 3 binds_of binds_at_row
+  same-x : x ≡ looked here_known (operand_x o) (x_at bs (nodes_at bs + n))
+  unfolding entry_of
+  same-x = ex ∙ ap (λ (q : Known). looked q kind.x r.x) k.ranged ∙ ap (λ (e : Entry). looked here_known e.x r.x) same-kind
+      ∙ ap (λ (q : Record). looked here_known (operand_x o) q.x) same_record
 
--- a kind yields one of two types
-pub small-tag : (o : Option Kind) → tag_of o ≤ 1
-unfolding tag_of
-small-tag none = omega arith
-small-tag (some k) = tag_small k.yields
+  same-y : y ≡ looked here_known (operand_y o) (y_at bs (nodes_at bs + n))
+  unfolding entry_of
+  same-y = ey ∙ ap (λ (q : Known). looked q kind.y r.y) k.ranged ∙ ap (λ (e : Entry). looked here_known e.y r.y) same-kind
+      ∙ ap (λ (q : Record). looked here_known (operand_y o) q.y) same_record
 
-pub row_small : (kind : ℕ) {row : ℕ} → row ≡ row_of kind → row < 31
-row_small kind e = rw e (row_within kind)
+  same_aux : r.aux ≡ aux_at bs (nodes_at bs + n)
+  same_aux = ap (λ (q : Record). q.aux) same_record
+
+  same-made : made_of (eqb (aux_at bs (nodes_at bs + n)) 0) (entry_of o) (looked here_known (operand_x o) (x_at bs (nodes_at bs + n))) (looked here_known (operand_y o) (y_at bs (nodes_at bs + n))) ≡ m
+  same-made = rw (← same-x, ← same-y, ← same_aux, ← same-kind) (sym em)
+
+  pub turn-made : n < node_count bs → {w : Fact} → m ≡ Std.Some w → (node_fault bs n (nodes_at bs + n) ≡ none) × NodeFact bs n w
+  unfolding o
+  turn-made h q = node_made bs n known.facts k.facts_known h o refl (same-made ∙ q)
+
+  pub turn-refused : m ≡ Std.None → node_fault bs n (nodes_at bs + n) ≡ some (fault_of r.aux kind x y)
+  unfolding o
+  turn-refused q = node-refused bs n known.facts k.facts_known o refl (same-made ∙ q) ∙ rw (← same-x, ← same-y, ← same_aux, ← same-kind)

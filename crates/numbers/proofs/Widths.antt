@@ -1,23 +1,22 @@
--- Signed machine integers of 32 and 64 bits: what fits the narrow width fits the wide one, and so do sums, differences, products,
--- quotients and remainders of narrow numbers. And the limit as the code tests it.
-use mathlib.Core.Path.{◌≡◌, refl, sym, subst, ◌∙◌}
-use Prim.Native.Nat.{ℕ, suc, ◌+◌, ◌-◌, ◌^◌, ◌≤◌, ◌<◌}
+-- Signed machine integers of 32 and 64 bits: what fits the narrow width fits the wide one, and so do quotients and remainders of narrow
+-- numbers. And the limit as the code tests it.
+use mathlib.Core.Path.{◌≡◌, refl, sym, ◌∙◌}
+use Prim.Native.Nat.{ℕ, suc, ◌-◌, ◌^◌, ◌≤◌, ◌<◌}
 use native.Mathlib.Omega.{arith}
-use native.Mathlib.Nat.{mul-le-mul, pos_of_ne-zero}
+use native.Mathlib.Nat.{pos_of_ne-zero}
 use mathlib.Core.Bool.{Bool, true, false}
 use borrow.Author.Tests.{leb-true, leb-false, le-leb, lt-leb, eq-eqb, ne_eqb, eqb-false}
 use lib.Dec.{T, eqb, eqb→eq, eqb_refl}
-use lib.IntN.{ℤ, pos, negsuc, neg_ℤ, ◌+ℤ◌, ◌-ℤ◌, ◌*ℤ◌, nat_abs}
-use lib.Signed.{le_z, non_neg, quot_z, rem_z, mag_rem, le_z_yes}
+use lib.IntN.{ℤ, pos, negsuc, nat_abs}
+use lib.Signed.{le_z, quot_z, rem_z, mag_rem}
 use mir.Syntax.{w32, w64}
 use mir.Val.{SFits, to_z, of_z}
 use mir.Facts.{to_z-of_z}
 use Rattle.numbers.specs.Limits.{limit}
 use Rattle.numbers.specs.Whole.{eq_z, quotient, within_limit}
 use Rattle.numbers.proofs.Tests.{T-iff}
-use Rattle.numbers.proofs.Parts.{up, dn, +-parts, up_neg, dn-neg, ≤→parts}
 use Rattle.numbers.proofs.Division.{nat_abs-quotient-≤}
-use Rattle.numbers.proofs.Magnitudes.{nat_abs-*, nat_abs→fits}
+use Rattle.numbers.proofs.Magnitudes.{nat_abs→fits}
 
 -- What fits 32 bits fits 64.
 pub widens : (z : ℤ) → SFits w32 z → SFits w64 z
@@ -28,10 +27,6 @@ widens z h = omega (arith, h.sfits)
 -- a narrow number read from its bits, widened, and read from its bits again
 abbrev pub through : ℤ → ℤ
 through z = to_z w64 (of_z w64 (to_z w32 (of_z w32 z)))
-
--- A narrow number may be widened.
-pub widened : {z : ℤ} → SFits w32 z → SFits w64 (to_z w32 (of_z w32 z))
-widened {z} f = rw (to_z-of_z f) (widens z f)
 
 -- It arrives as it was.
 pub arrives : (z : ℤ) → SFits w32 z → through z ≡ z
@@ -48,38 +43,10 @@ module _ (f : ℤ → ℤ → ℤ) (a b : ℤ) (p : SFits w32 a) (q : SFits w32 
 
 -- ---- bounds
 
--- A number that differs as U and D do fits where U and D do.
-difference-fits : (z : ℤ) (U D : ℕ) → up z + D ≡ dn z + U → U < 2 ^ 63 → D ≤ 2 ^ 63 → SFits w64 z
-difference-fits (pos n) U D e p q = record { sfits = omega arith }
-difference-fits (negsuc n) U D e p q = record { sfits = omega arith }
-
-up_fits : (z : ℤ) → SFits w32 z → up z < 2 ^ 31
-up_fits (pos n) h = h.sfits
-up_fits (negsuc n) h = omega arith
-
-dn-fits : (z : ℤ) → SFits w32 z → dn z ≤ 2 ^ 31
-dn-fits (pos n) h = omega arith
-dn-fits (negsuc n) h = h.sfits
-
 -- A number that fits 32 bits has a magnitude of at most 2 ^ 31.
 pub nat_abs-fits : (z : ℤ) → SFits w32 z → nat_abs z ≤ 2 ^ 31
 nat_abs-fits (pos n) h = omega (arith, h.sfits)
 nat_abs-fits (negsuc n) h = h.sfits
-
-pub +-fits : (a b : ℤ) → SFits w32 a → SFits w32 b → SFits w64 (a +ℤ b)
-+-fits a b p q =
-    difference-fits (a +ℤ b) (up a + up b) (dn a + dn b) (+-parts a b) (omega (arith, up_fits a p, up_fits b q)) (omega (arith, dn-fits a p, dn-fits b q))
-
-pub minus-fits : (a b : ℤ) → SFits w32 a → SFits w32 b → SFits w64 (a -ℤ b)
-minus-fits a b p q =
-    difference-fits (a -ℤ b) (up a + up (neg_ℤ b)) (dn a + dn (neg_ℤ b)) (+-parts a (neg_ℤ b)) (omega (arith, up_fits a p, dn-fits b q, up_neg b))
-    (omega (arith, dn-fits a p, up_fits b q, dn-neg b))
-
-pub negation-fits : (a : ℤ) → SFits w32 a → SFits w64 (pos 0 -ℤ a)
-negation-fits a p = minus-fits (pos 0) a (record { sfits = omega arith }) p
-
-pub *-fits : (a b : ℤ) → SFits w32 a → SFits w32 b → SFits w64 (a *ℤ b)
-*-fits a b p q = nat_abs→fits (a *ℤ b) (rw nat_abs-* (omega (arith, mul-le-mul (nat_abs-fits a p) (nat_abs-fits b q))))
 
 pub quotient_fits : (a b : ℤ) → SFits w32 a → SFits w64 (quot_z a b)
 unfolding quotient
@@ -88,25 +55,6 @@ quotient_fits a b p = nat_abs→fits (quot_z a b) (omega (arith, nat_abs-quotien
 -- The remainder of the machine has no greater magnitude than the dividend.
 pub rem-fits : (a b : ℤ) → SFits w32 a → SFits w32 (rem_z a b)
 rem-fits a b p = record { sfits = omega (arith, mag_rem a b, p.sfits) }
-
--- The difference of two narrow numbers has a magnitude below 2 ^ 32.
-pub difference-small : (a b : ℤ) → SFits w32 a → SFits w32 b → nat_abs (a -ℤ b) < 2 ^ 32
-difference-small a b p q = by_sign (a -ℤ b) (+-parts a (neg_ℤ b))
-  where
-    by_sign : (z : ℤ) → up z + (dn a + dn (neg_ℤ b)) ≡ dn z + (up a + up (neg_ℤ b)) → nat_abs z < 2 ^ 32
-    by_sign (pos n) e = omega (arith, e, up_fits a p, dn-fits b q, up_neg b)
-    by_sign (negsuc n) e = omega (arith, e, dn-fits a p, up_fits b q, dn-neg b)
-
--- The difference from a number to one that is no less is not negative.
-pub difference-non_neg : (a b : ℤ) → le_z a b ≡ true → T (non_neg (b -ℤ a))
-difference-non_neg a b t = by_sign (b -ℤ a) (+-parts b (neg_ℤ a))
-  where
-    order : up a + dn b ≤ up b + dn a
-    order = ≤→parts a b (le_z_yes (subst T (sym t) tt))
-
-    by_sign : (z : ℤ) → up z + (dn b + dn (neg_ℤ a)) ≡ dn z + (up b + up (neg_ℤ a)) → T (non_neg z)
-    by_sign (pos n) e = tt
-    by_sign (negsuc n) e = absurd (omega (arith, e, order, up_neg a, dn-neg a))
 
 -- ---- the same number, by its bits
 

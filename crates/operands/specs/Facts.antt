@@ -1,62 +1,133 @@
--- What the check of the nodes keeps of each thing that a node may name: one number, twice the set of its free slots, a bit for each slot,
--- and 1 more where it yields integers.
+-- What the check of the nodes keeps of each thing that a node may name, and what looking at an operand finds.
 -- Internal: a contract behind the public ones; no public promise cites it.
-use Rattle.std.specs.Prelude.{ℕ, zero, suc, ◌+◌, ◌-◌, ◌*◌, ◌/◌, ◌%◌, Bool, true, false, cond, not, ◌&&◌, ◌||◌, List, [], ◌∷◌, eqb, leb, ltb, length, get_or, set}
+use Rattle.std.specs.Prelude.{◌≡◌, ◌<◌, ℤ, pos, nat_abs, ℕ, ◌+◌, ◌-◌, Bool, true, false, cond, not, ◌&&◌, ◌||◌, eqb, List, [], ◌∷◌, get_or, set, replicate, Option, Some, None, Result, Ok, Err}
 use Rattle.std.specs.Int.Bits.{bit_and, bit_or}
-use Rattle.answers.specs.Sections.{variable_count, slot_count, array_records}
-use Rattle.operands.specs.declared.Looked.{Looked}
-use Rattle.operands.specs.declared.Looked.TheVariants.{Fact, Beyond, OtherType}
-use Rattle.operands.specs.declared.Made.{Made}
-use Rattle.operands.specs.declared.Made.TheVariants.{Whole, Faulty}
+use Rattle.answers.specs.Check.{names}
+use Rattle.kinds.specs.declared.Operand.{Operand}
+use Rattle.kinds.specs.declared.Operand.TheVariants.{Missing, Unused, AnyNumber, TruthValue, Slot, BooleanVariable, IntegerVariable, BooleanArray, IntegerArray, BooleanNode, IntegerNode}
+use Rattle.kinds.specs.declared.Sort.{Sort}
+use Rattle.kinds.specs.declared.Sort.TheVariants.{Boolean, Integer}
+use Rattle.kinds.specs.declared.Entry.{Entry}
+use Rattle.operands.specs.declared.Fact.{Fact}
+use Rattle.operands.specs.declared.Range.{Range}
+use Rattle.operands.specs.declared.Known.{Known}
+use Rattle.operands.specs.declared.Miss.{Miss}
+use Rattle.operands.specs.declared.Miss.TheVariants.{Beyond, OtherType}
 
--- values f 0, f 1, .., f (n − 1) put into a list from a place on
-unfoldable pub entered : ℕ → (ℕ → ℕ) → ℕ → List ℕ → List ℕ
-entered base f zero facts = facts
-entered base f (suc n) facts = set (entered base f n facts) (base + n) (f n)
+-- of a thing without free slots
+abbrev pub closed : Sort → Fact
+closed t = record { free = 0; yields = t }
 
--- where the things of each operand code begin, and how many of them a node numbered n may name
-unfoldable pub bases_of : List ℕ
-bases_of = 0 ∷ 0 ∷ 2 ∷ 0 ∷ 3 ∷ 83 ∷ 83 ∷ 19 ∷ 19 ∷ 339 ∷ 339 ∷ []
+abbrev pub range : ℕ → ℕ → Sort → Range
+range from count t = record { from = from; count = count; yields = t }
 
-unfoldable pub limits_of : List ℕ → ℕ → List ℕ
-limits_of bs n =
-    0 ∷ 1 ∷ 4_294_967_296 ∷ 2 ∷ slot_count bs ∷ variable_count bs ∷ variable_count bs ∷ length (array_records bs) ∷ length (array_records bs) ∷ n ∷ n ∷ []
+-- a range for each operand, in the order of `Operand`
+unfoldable pub ranges_of : (slots variables arrays nodes : ℕ) → List Range
+ranges_of s v a n =
+    range 0 0 Boolean ∷ range 0 1 Boolean ∷ range 2 1 Integer ∷ range 0 2 Boolean ∷ range 3 s Integer ∷ range 83 v Boolean
+    ∷ range 83 v Integer ∷ range 19 a Boolean ∷ range 19 a Integer ∷ range 339 n Boolean ∷ range 339 n Integer ∷ []
 
--- the place of an operand's fact: any number has one place
-unfoldable pub place_of : List ℕ → ℕ → ℕ → ℕ
-place_of bases code x = get_or bases code 0 + cond (eqb code 2) 0 x
+-- before the first node, with nothing known of the slots, the variables and the arrays
+unfoldable pub known_first : (slots variables arrays : ℕ) → Known
+known_first s v a = record { ranges = ranges_of s v a 0; facts = set (replicate 5_339 (closed Boolean)) 2 (closed Integer) }
 
--- an even code wants integers
-unfoldable pub typed : ℕ → ℕ → Bool
-typed code fact = eqb (fact % 2) ((code + 1) % 2)
+abbrev pub counted : ℕ → Range → Range
+counted n r = record { from = r.from; count = n; yields = r.yields }
 
-unfoldable pub looked : List ℕ → List ℕ → List ℕ → ℕ → ℕ → Looked
-looked limits bases facts code x =
-    cond (ltb x (get_or limits code 0))
-    (cond (typed code (get_or facts (place_of bases code x) 0)) (Fact (get_or facts (place_of bases code x) 0)) OtherType)
-    Beyond
+-- one more for a place among the ranges
+abbrev pub count_at : ℕ → ℕ → List Range → List Range
+count_at i n rs = set rs i (counted n (get_or rs i (range 0 0 Boolean)))
 
-abbrev pub is_beyond : Looked → Bool
-is_beyond (Fact v) = false
-is_beyond Beyond = true
-is_beyond OtherType = false
+-- the fact of node n noted
+unfoldable pub noted : Known → ℕ → Fact → Known
+noted known n fact = record { ranges = count_at 10 (n + 1) (count_at 9 (n + 1) known.ranges); facts = set known.facts (339 + n) fact }
+
+-- where an operand's range stands
+abbrev pub index_of : Operand → ℕ
+index_of Missing = 0
+index_of Unused = 1
+index_of AnyNumber = 2
+index_of TruthValue = 3
+index_of Slot = 4
+index_of BooleanVariable = 5
+index_of IntegerVariable = 6
+index_of BooleanArray = 7
+index_of IntegerArray = 8
+index_of BooleanNode = 9
+index_of IntegerNode = 10
+
+abbrev pub range_in : Known → Operand → Range
+range_in known o = get_or known.ranges (index_of o) (range 0 0 Boolean)
+
+-- the number that an operand is looked up by: any number has one fact
+abbrev pub looked_by : Operand → ℤ → ℤ
+looked_by Missing z = z
+looked_by Unused z = z
+looked_by AnyNumber z = pos 0
+looked_by TruthValue z = z
+looked_by Slot z = z
+looked_by BooleanVariable z = z
+looked_by IntegerVariable z = z
+looked_by BooleanArray z = z
+looked_by IntegerArray z = z
+looked_by BooleanNode z = z
+looked_by IntegerNode z = z
+
+-- the place of an operand's fact
+abbrev pub place_in : Known → Operand → ℤ → ℕ
+place_in known o z = (range_in known o).from + nat_abs (looked_by o z)
+
+-- the operand names something, and its fact is kept
+abbrev pub in_range : Known → Operand → ℤ → Bool
+in_range known o z = names (range_in known o).count (looked_by o z)
+
+abbrev pub IsWithin : Known → Operand → ℤ → Type 0
+IsWithin known o z = in_range known o z ≡ true → place_in known o z < 5_339
+
+abbrev pub same : Sort → Sort → Bool
+same Boolean Boolean = true
+same Boolean Integer = false
+same Integer Boolean = false
+same Integer Integer = true
+
+-- the free slots of a thing where that type is wanted
+abbrev pub of_type : Sort → Fact → Result ℕ Miss
+of_type t fact = cond (same fact.yields t) (Ok fact.free) (Err OtherType)
+
+unfoldable pub looked : Known → Operand → ℤ → Result ℕ Miss
+looked known o z =
+    cond (in_range known o z) (of_type (range_in known o).yields (get_or known.facts (place_in known o z) (closed Boolean))) (Err Beyond)
 
 -- the free slots of both operands, without the bound slot, and the type
-unfoldable pub joined_of : ℕ → ℕ → ℕ → ℕ → ℕ
-joined_of a b binds tag = bit_and (bit_or (a / 2) (b / 2)) (4_294_967_295 - cond (eqb binds 1) (a / 2) 0) * 2 + tag
+unfoldable pub joined_of : ℕ → ℕ → Entry → Fact
+joined_of a b k = record { free = bit_and (bit_or a b) (65_535 - cond k.binds a 0); yields = k.yields }
 
-abbrev pub made_of : Bool → Looked → Looked → ℕ → ℕ → Made
-made_of false x y binds tag = Faulty
-made_of true (Fact a) (Fact b) binds tag = Whole (joined_of a b binds tag)
-made_of true (Fact a) Beyond binds tag = Faulty
-made_of true (Fact a) OtherType binds tag = Faulty
-made_of true Beyond y binds tag = Faulty
-made_of true OtherType y binds tag = Faulty
+abbrev pub made_of : Bool → Entry → Result ℕ Miss → Result ℕ Miss → Option Fact
+made_of false k x y = None
+made_of true k (Ok a) (Ok b) = Some (joined_of a b k)
+made_of true k (Ok a) (Err m) = None
+made_of true k (Err m) y = None
 
--- a field that names nothing, with a number that it may not hold
-abbrev pub barred : ℕ → Looked → Bool
-barred code l = leb code 3 && is_beyond l
+-- a field that names nothing
+abbrev pub is_plain : Operand → Bool
+is_plain Missing = true
+is_plain Unused = true
+is_plain AnyNumber = true
+is_plain TruthValue = true
+is_plain Slot = false
+is_plain BooleanVariable = false
+is_plain IntegerVariable = false
+is_plain BooleanArray = false
+is_plain IntegerArray = false
+is_plain BooleanNode = false
+is_plain IntegerNode = false
+
+abbrev pub is_beyond : Result ℕ Miss → Bool
+is_beyond (Ok v) = false
+is_beyond (Err Beyond) = true
+is_beyond (Err OtherType) = false
 
 -- which fault it is
-abbrev pub fault_of : ℕ → ℕ → Looked → ℕ → Looked → ℕ
-fault_of aux code_x x code_y y = cond (not (eqb aux 0) || barred code_x x || barred code_y y) 3 (cond (is_beyond x || is_beyond y) 4 5)
+abbrev pub fault_of : ℕ → Entry → Result ℕ Miss → Result ℕ Miss → ℕ
+fault_of aux k x y =
+    cond (not (eqb aux 0) || is_plain k.x && is_beyond x || is_plain k.y && is_beyond y) 3 (cond (is_beyond x || is_beyond y) 4 5)

@@ -1,7 +1,7 @@
 -- Boolean operations on what the walk met, each by the language's own operation on values.
 -- Internal: a contract behind the public ones; no public promise cites it.
-use Rattle.std.specs.Prelude.{ℕ, Bool, true, false, cond, ◌&&◌, eqb}
-use Rattle.std.proofs.Math.Option.{Option, none, some}
+use Rattle.std.specs.Prelude.{◌&&◌}
+use Rattle.std.proofs.Math.Option.{some}
 use Rattle.language.specs.Syntax as syntax
 use Rattle.language.specs.Readings.{both, comparison, connective, atomic, opposite}
 use Rattle.language.specs.Readings as readings
@@ -23,16 +23,6 @@ connective_of And = syntax.conj
 connective_of Or = syntax.disj
 connective_of Implies = syntax.implies
 connective_of Iff = syntax.iff
-
--- the level of a truth value: false 0, undefined 1, true 2
-abbrev pub level_of : Option Bool → ℕ
-level_of (some false) = 0
-level_of none = 1
-level_of (some true) = 2
-
--- and the truth value of a level
-abbrev pub levelled : ℕ → Option Bool
-levelled l = cond (eqb l 0) (some false) (cond (eqb l 2) (some true) none)
 
 unfoldable pub compared : readings.Reading → syntax.Comparison → Walked → Walked → Walked
 compared ρ c a b =

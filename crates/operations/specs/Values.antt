@@ -2,11 +2,17 @@
 -- Past the limit no value is handed on: number 8 refuses, whatever it would be.
 -- Internal: a contract behind the public ones; no public promise cites it.
 use Rattle.std.specs.Prelude.{Bool, true, false, ◌&&◌, ℤ}
+use Rattle.std.specs.Prelude as code
 use Rattle.std.proofs.Math.Option.{Option, none, some}
 use Rattle.language.specs.Meaning.{value_within}
 use Rattle.operations.specs.declared.values.Value.{Value}
 use Rattle.operations.specs.declared.values.Value.TheVariants.{Integer, Truth, Undefined}
 use Rattle.operations.specs.declared.values.Walked.{Walked}
+
+-- an option of the code's, as the definitions have it
+abbrev pub optional : {A : Type 0} → code.Option A → Option A
+optional (code.Some x) = some x
+optional code.None = none
 
 -- a value as the code has it
 abbrev pub of_integer : Option ℤ → Value

@@ -4,7 +4,7 @@ use Prim.Native.Nat.{ℕ, suc, ◌+◌, ◌-◌, ◌*◌, ◌≤◌, ◌<◌}
 use native.Mathlib.Omega.{arith}
 use mathlib.Core.List.{List}
 use lib.IntN.{nat_abs}
-use lib.ListN.{length, replicate}
+use lib.ListN.{length, replicate, length-append, length-replicate}
 use Rattle.numbers.specs.Limits.{most_bytes}
 use Rattle.table.specs.Records.{record_size, record_count, y_at}
 use Rattle.table.proofs.Alike.{Alike, Alike-left, kind_at-alike, x_at-alike, y_at-alike}
@@ -12,6 +12,11 @@ use Rattle.answers.specs.Sections.{element_of, array_of, behind_array, row_of}
 use Rattle.answers.proofs.Listed.{listed-agree}
 use Rattle.answers.proofs.SameFaults.{element_of-alike}
 use Rattle.preparation.specs.Prepared.{padded}
+
+-- A table that is padded fills the array.
+pub padded-sized : (bs : List ℕ) → length bs ≤ most_bytes → length (padded bs) ≡ most_bytes
+unfolding padded
+padded-sized bs h = omega (arith, length-append bs (replicate (most_bytes - length bs) 0), length-replicate {A = ℕ} (most_bytes - length bs) 0)
 
 module _ (bs : List ℕ) (records : length bs ≡ record_size * record_count bs) where
   -- A record of the table,

@@ -23,10 +23,10 @@ use Rattle.answers.proofs.Listed.{listed-agree}
 use Rattle.answers.proofs.SameFaults.{variable_of-alike, slot_of-alike}
 use Rattle.answers.proofs.ArrayRuns.{ArraysPassed-at}
 use Rattle.answers.proofs.Passed.{Passed, SectionsOrdered, Passed→SectionsOrdered, few_records}
-use Rattle.evaluator.specs.Walks as walks
-use Rattle.evaluator.specs.Walks.{slots_from, declared, trees_of, row_at, Laid, setting_of, truth_walked, truth_at}
+use Rattle.evaluator.specs.Walks.{declared, trees_of, row_at, Laid, setting_of, truth_walked, truth_at}
+use Rattle.evaluator.specs.declared.places.TablePlaces.{TablePlaces}
 use Rattle.preparation.specs.Prepared.{padded, PlacesOf}
-use Rattle.preparation.proofs.Alike.{padded-alike, row_of-padded, behind_array-padded, array_of-padded}
+use Rattle.preparation.proofs.Alike.{padded-sized, padded-alike, row_of-padded, behind_array-padded, array_of-padded}
 use Rattle.preparation.proofs.Below.{passed-below}
 
 -- ---- small steps
@@ -69,7 +69,7 @@ begins_unset = fun_ext (λ s. at s 16)
     at zero (suc n) = refl
     at (suc s) (suc n) = at s n
 
-module _ (bs places : List ℕ) (passed : Passed bs) (held : PlacesOf bs places) where
+module _ (bs : List ℕ) (places : TablePlaces) (passed : Passed bs) (held : PlacesOf bs places) where
   ordered : SectionsOrdered bs
   ordered = Passed→SectionsOrdered bs passed
 
@@ -97,14 +97,14 @@ module _ (bs places : List ℕ) (passed : Passed bs) (held : PlacesOf bs places)
 
   -- ---- the same slots and rows
 
-  slot_same : (i : ℕ) → i < slot_count bs → slot_of (padded bs) (slots_from places + i) ≡ slot_of bs (slots_at bs + i)
+  slot_same : (i : ℕ) → i < slot_count bs → slot_of (padded bs) (places.slots_from + i) ≡ slot_of bs (slots_at bs + i)
   slot_same i h = rw held.slots (slot_of-alike (padded-alike bs passed.whole_records (slots_at bs + i) (slot-within i h)))
 
   row_same : (i : ℕ) → i < node_count bs → row_at (padded bs) places i ≡ row_of bs (nodes_at bs + i)
   unfolding row_at
   row_same i h = rw held.nodes (row_of-padded bs passed.whole_records (nodes_at bs + i) (node-within i h))
 
-  array_same : (a : ℕ) → a < length (array_records bs) → get_or places a 0 ≡ get_or (array_records bs) a 0
+  array_same : (a : ℕ) → a < length (array_records bs) → get_or places.arrays a 0 ≡ get_or (array_records bs) a 0
   array_same a h = held.arrays a (omega (arith, passed.few_arrays))
 
   slot-allowed : (i : ℕ) → i < slot_count bs → SlotAllowed bs (slots_at bs + i)
@@ -115,7 +115,8 @@ module _ (bs places : List ℕ) (passed : Passed bs) (held : PlacesOf bs places)
   pub prepared_laid : Laid (padded bs) places
   prepared_laid =
       record {
-        long = held.long;
+        sized = padded-sized bs passed.few_bytes;
+        wide = held.wide;
         nodes_in = omega (arith, held.nodes, held.node_total, ordered, few);
         earlier = λ n h. let l : n < node_count bs = rw held.node_total at h in rw (row_same n l) (passed-below bs n (nodes_at bs + n) (passed.nodes_passed n l));
         few_slots = rw held.slot_total passed.few_slots;
@@ -131,16 +132,16 @@ module _ (bs places : List ℕ) (passed : Passed bs) (held : PlacesOf bs places)
 
   -- ---- what it declares
 
-  variables-same : listed (slots_from places - 1) (λ i. variable_of (padded bs) (1 + i)) ≡ listed (variable_count bs) (λ i. variable_of bs (variables_at bs + i))
+  variables-same : listed (places.slots_from - 1) (λ i. variable_of (padded bs) (1 + i)) ≡ listed (variable_count bs) (λ i. variable_of bs (variables_at bs + i))
   unfolding variable_count variables_at
   variables-same = rw held.slots (listed-agree (slots_at bs - 1) _ _ (λ i h. variable_of-alike (padded-alike bs passed.whole_records (1 + i) (variable-within i h))))
 
-  slots_same : listed (walks.slot_count places) (λ i. slot_of (padded bs) (slots_from places + i)) ≡ listed (slot_count bs) (λ i. slot_of bs (slots_at bs + i))
+  slots_same : listed places.slot_count (λ i. slot_of (padded bs) (places.slots_from + i)) ≡ listed (slot_count bs) (λ i. slot_of bs (slots_at bs + i))
   slots_same = rw held.slot_total (listed-agree (slot_count bs) _ _ slot_same)
 
-  arrays-same : map (array_of (padded bs)) (take (walks.array_count places) places) ≡ map (array_of bs) (array_records bs)
+  arrays-same : map (array_of (padded bs)) (take places.array_count places.arrays) ≡ map (array_of bs) (array_records bs)
   arrays-same =
-      rw (held.array_count, take-is places (array_records bs) (omega (arith, held.long, passed.few_arrays)) array_same)
+      rw (held.array_count, take-is places.arrays (array_records bs) (omega (arith, held.wide, passed.few_arrays)) array_same)
       (map-agree (array_of (padded bs)) (array_of bs) (array_records bs) 0 (λ a h. array_of-padded bs passed.whole_records _ (array-within a h)))
 
   declared_same : declared (padded bs) places ≡ declarations bs
@@ -148,7 +149,7 @@ module _ (bs places : List ℕ) (passed : Passed bs) (held : PlacesOf bs places)
   declared_same = same_declarations variables-same slots_same arrays-same
 
   trees-same : trees_of (padded bs) places ≡ node_trees bs
-  unfolding trees_of node_trees rows
+  unfolding trees_of node_trees rows row_at
   trees-same = ap trees (rw held.node_total (listed-agree (node_count bs) _ _ row_same))
 
   -- The walk over a node of a table made ready is the walk over that node of the table.

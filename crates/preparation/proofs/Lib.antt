@@ -1,4 +1,3 @@
 pub mod Alike
 pub mod Below
 pub mod Laid
-pub mod Stored

@@ -1,1 +1,2 @@
+pub mod PlacedOnce
 pub mod Prepared

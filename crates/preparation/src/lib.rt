@@ -6,9 +6,11 @@ ghost use Rattle.numbers.specs.Limits.{most_bytes};
 ghost use Rattle.layout.specs.Passed.{Passed};
 ghost use Rattle.sections.specs.Places.{places_of};
 ghost use Rattle.preparation.specs.Prepared.{padded, PlacesOf};
+ghost use Rattle.preparation.specs.PlacedOnce.{PlacesOf-prop};
 
-use evaluator::{ARRAY_COUNT, NODE_COUNT, NODES_FROM, SLOT_COUNT, SLOTS_FROM};
+use evaluator::places::TablePlaces;
 use layout::array_records;
+use layout::checked_table::CheckedTable;
 use sections::Places;
 use table::MOST_BYTES;
 
@@ -18,36 +20,44 @@ pub fn fill(t: &mut [u8; MOST_BYTES], table: &[u8])
     requires table_len_bound { length table.now ≤ most_bytes }
     ensures { t.new ≡ padded table.now }
 {
-    let end = table.len();
-    let mut i = 0;
-    while i < end {
-        t[i] = table[i];
-        i += 1;
-    }
+    t[..table.len()].copy_from_slice(table);
 }
 
 // The record of each array, and where slots and nodes begin and how many there are.
-pub fn lay_out(s: &[u8], at: Places) -> [u32; 69]
+pub fn lay_out(s: &[u8], at: Places) -> TablePlaces
     requires passed { Passed s.now }
     requires at_value { at ≡ places_of s.now }
     ensures { PlacesOf s.now result }
 {
-    let arrays = array_records(s, at);
-    let mut places = [0u32; 69];
-    let mut a = 0;
-    while a < 64 {
-        places[a] = arrays[a] as u32;
-        a += 1;
+    TablePlaces {
+        arrays: array_records(s, at),
+        array_count: at.array_count,
+        slots_from: at.slots,
+        slot_count: at.arrays - at.slots,
+        nodes_from: at.nodes,
+        node_count: at.constraints - at.nodes,
     }
-    let slots = at.slots;
-    let nodes = at.nodes;
-    let array_count = at.array_count;
-    let slot_count = at.arrays - slots;
-    let node_count = at.constraints - nodes;
-    places[SLOTS_FROM] = slots as u32;
-    places[SLOT_COUNT] = slot_count as u32;
-    places[ARRAY_COUNT] = array_count as u32;
-    places[NODES_FROM] = nodes as u32;
-    places[NODE_COUNT] = node_count as u32;
-    places
+}
+
+// A checked table, a copy of it that is padded with 0, and where its sections lie.
+#[derive(Clone, Copy)]
+pub struct PreparedTable<'t, 'p> {
+    pub checked: CheckedTable<'t>,
+    pub bytes: &'p [u8; MOST_BYTES],
+    pub places: TablePlaces,
+    pub ghost copied: { bytes.now ≡ padded checked.bytes.now },
+    pub ghost placed: { PlacesOf checked.bytes.now places } by { PlacesOf-prop checked.bytes.now places },
+}
+
+impl<'t, 'p> PreparedTable<'t, 'p> {
+    pub fn new(table: &CheckedTable<'t>, bytes: &'p [u8; MOST_BYTES]) -> PreparedTable<'t, 'p>
+        requires { bytes.now ≡ padded table.now.bytes.now }
+        ensures { result.checked.bytes.now ≡ table.now.bytes.now }
+    {
+        PreparedTable {
+            checked: *table,
+            bytes,
+            places: lay_out(table.bytes, table.at),
+        }
+    }
 }

@@ -2,66 +2,47 @@
 -- of its own output bytes, and these are the only ones. `κs` are the lifetimes of a call, `args` the choice, the table and the buffer that it is
 -- given, `after` the same at the end, and `Learnt` is what the contract says of them.
 use mathlib.Core.Path.{◌≡◌, refl, sym, ap, ◌∙◌}
-use Prim.Native.Nat.{ℕ, zero, suc, ◌<◌}
-use native.Mathlib.Omega.{arith}
+use Prim.Native.Nat.{ℕ}
 use mathlib.Core.Bool.{cond}
 use mathlib.Core.List.{List}
+use Rattle.std.specs.Prelude.{Result, Ok, Err}
 use lib.Dec.{eqb}
-use lib.ListN.{length, take}
+use lib.ListN.{length}
 use borrow.Fn.Kinds.{Dens, ended_of}
 use contract.Lifetimes.{Lfts}
 use denote.Triple.Clauses.{AtExit}
-use Rattle.language.specs.Readings.{Reading}
-use Rattle.table.specs.Records.{record_bytes}
-use Rattle.answers.specs.Answers.{Answer, Outcome, done, refused, translation, translate_order, reading_chosen}
-use Rattle.verdict.specs.declared.Check.TheVariants.{Sound, BadLength, Misplaced, NotAllowed, NamesNothing, WrongType, OpenConstraint}
-use Rattle.verdict.specs.Results as Verdict
+use Rattle.answers.specs.Answers.{Answer, Outcome, done, refused, translate_order, reading_chosen}
+use Rattle.verdict.specs.declared.Fault.TheVariants.{BadLength, Misplaced, NotAllowed, NamesNothing, WrongType, OpenConstraint}
 use Rattle.translation.specs.Results.{answer_of, outcome_of}
-use Rattle.translation.specs.declared.Translation.{Translation}
-use Rattle.translation.specs.declared.Translation.TheVariants.{Done, BadChoice, Unsound, Beyond, NoRoom}
+use Rattle.translation.specs.declared.Refusal.{Refusal}
+use Rattle.translation.specs.declared.Refusal.TheVariants.{BadChoice, Unsound, Beyond, NoRoom}
 use Rattle.translation.proofs.translate.Kinds as Kinds
 use Rattle.translation.proofs.translate.Met.{met}
 use Rattle.translation.proofs.translate.Reads.{Asked, Learnt}
 use Rattle.translation.proofs.translate.Statement.{statement}
 use Rattle.demands.specs.Demands.{Translates, AnsweredWith, written, WrittenByRules, TotalTable}
 use Rattle.demands.proofs.Demands.{demand_1, demand_2, demand_3}
-use Rattle.promises.proofs.OfCheck.{check_of}
+use Rattle.promises.proofs.OfCheck.{fault_of}
 
--- The case of each answer.
-unfoldable translation_of : Answer → Translation
+-- What the translation gave for each answer.
+unfoldable translation_of : Answer → Result ℕ Refusal
 translation_of a =
-    cond (eqb a.number 0) (Done a.length_written)
-    (cond (eqb a.number 7) BadChoice (cond (eqb a.number 8) (Beyond a.at) (cond (eqb a.number 9) NoRoom (Unsound (check_of a)))))
+    cond (eqb a.number 0) (Ok a.length_written)
+    (Err (cond (eqb a.number 7) BadChoice (cond (eqb a.number 8) (Beyond a.at) (cond (eqb a.number 9) NoRoom (Unsound (fault_of a))))))
 
--- Different cases have different answers, but for a length of 0, which no translation has.
-translation_of-answer_of : (r : Translation) → ((answer_of r).number ≡ 0 → 0 < (answer_of r).length_written) → translation_of (answer_of r) ≡ r
-unfolding translation_of check_of answer_of Verdict.answer_of refused done
-translation_of-answer_of (Done n) h = refl
-translation_of-answer_of BadChoice h = refl
-translation_of-answer_of (Unsound Sound) h = absurd (omega (arith, h refl))
-translation_of-answer_of (Unsound BadLength) h = refl
-translation_of-answer_of (Unsound (Misplaced k)) h = refl
-translation_of-answer_of (Unsound (NotAllowed k)) h = refl
-translation_of-answer_of (Unsound (NamesNothing k)) h = refl
-translation_of-answer_of (Unsound (WrongType k)) h = refl
-translation_of-answer_of (Unsound (OpenConstraint k)) h = refl
-translation_of-answer_of (Beyond p) h = refl
-translation_of-answer_of NoRoom h = refl
-
--- A translation has bytes,
-translation-long : (table : List ℕ) (ρ : Reading) → 0 < length (translation table ρ)
-unfolding translation record_bytes
-translation-long table ρ = omega arith
-
--- and so a translation that is done tells a length.
-done-long : (choice : ℕ) (table lent : List ℕ) (o : Outcome) → Translates choice table lent o → o.answer.number ≡ 0 → 0 < o.answer.length_written
-unfolding written
-done-long choice table lent o p z =
-    go o.answer.length_written (ap length (demand_2.translate choice table lent o p z).by_the_rules) (translation-long table (reading_chosen choice))
-  where
-    go : (n : ℕ) → length (take n o.lent) ≡ length (translation table (reading_chosen choice)) → 0 < length (translation table (reading_chosen choice)) → 0 < n
-    go zero e l = omega (arith, e, l)
-    go (suc n) e l = omega arith
+-- Different cases have different answers.
+translation_of-answer_of : (r : Result ℕ Refusal) → translation_of (answer_of r) ≡ r
+unfolding translation_of fault_of answer_of refused done
+translation_of-answer_of (Ok n) = refl
+translation_of-answer_of (Err BadChoice) = refl
+translation_of-answer_of (Err (Unsound BadLength)) = refl
+translation_of-answer_of (Err (Unsound (Misplaced k))) = refl
+translation_of-answer_of (Err (Unsound (NotAllowed k))) = refl
+translation_of-answer_of (Err (Unsound (NamesNothing k))) = refl
+translation_of-answer_of (Err (Unsound (WrongType k))) = refl
+translation_of-answer_of (Err (Unsound (OpenConstraint k))) = refl
+translation_of-answer_of (Err (Beyond p)) = refl
+translation_of-answer_of (Err NoRoom) = refl
 
 -- The function meets its contract: it ends, for every input that meets what it asks,
 pub kept : {M : Type 1} → statement M
@@ -86,7 +67,7 @@ module _ (κs : Lfts 2) (args : Dens κs Kinds.ps) where
   abbrev pub lent : List ℕ
   lent = args.1.1.0.now
 
-  module _ (r : Translation) (after : End) (h : Learnt κs args r after) where
+  module _ (r : Result ℕ Refusal) (after : End) (h : Learnt κs args r after) where
     -- its answer, with the buffer at the end
     abbrev pub given : Outcome
     given = outcome_of r after.1.1.0.now
@@ -109,10 +90,8 @@ module _ (κs : Lfts 2) (args : Dens κs Kinds.ps) where
       total = demand_3.translate choice table lent given h z
 
   -- Any two results are equal, and so are the lent bytes after them.
-  pub one-result : (r q : Translation) (after later : End) → Learnt κs args r after → Learnt κs args q later
+  pub one-result : (r q : Result ℕ Refusal) (after later : End) → Learnt κs args r after → Learnt κs args q later
       → (r ≡ q) × (after.1.1.0.now ≡ later.1.1.0.now)
   one-result r q after later h g =
       let same : given r after h ≡ given q later g = h ∙ sym g in
-      let long-r : (answer_of r).number ≡ 0 → 0 < (answer_of r).length_written = done-long choice table lent (given r after h) h in
-      let long-q : (answer_of q).number ≡ 0 → 0 < (answer_of q).length_written = done-long choice table lent (given q later g) g in
-      (sym (translation_of-answer_of r long-r) ∙ ap (λ (o : Outcome). translation_of o.answer) same ∙ translation_of-answer_of q long-q, ap (λ (o : Outcome). o.lent) same)
+      (sym (translation_of-answer_of r) ∙ ap (λ (o : Outcome). translation_of o.answer) same ∙ translation_of-answer_of q, ap (λ (o : Outcome). o.lent) same)

@@ -6,28 +6,30 @@ ghost use Rattle.answers.specs.Answers.{reading_of};
 ghost use Rattle.reading.specs.Readings.{meant_by};
 
 // The three readings of Frisch and Stuckey.
-#[derive(Clone, Copy)]
+#[derive(Clone, Copy, Debug, PartialEq, Eq)]
 pub enum Reading {
     Strict,
     Kleene,
     Relational,
 }
 
-// The reading that a choice asks for, if it is one.
-#[derive(Clone, Copy)]
-pub enum Choice {
-    Under(Reading),
-    Nothing,
-}
+// "choice not 1 to 3"
+#[derive(Clone, Copy, Debug, PartialEq, Eq)]
+pub struct BadChoice;
 
 // "Choice 1 strict, 2 Kleene, 3 relational."
-pub fn reading_of(choice: u32) -> Choice
-    ensures { meant_by result ≡ reading_of choice }
-{
-    match choice {
-        1 => Choice::Under(Reading::Strict),
-        2 => Choice::Under(Reading::Kleene),
-        3 => Choice::Under(Reading::Relational),
-        _ => Choice::Nothing,
+impl TryFrom<u32> for Reading {
+    type Error = BadChoice;
+
+    ghost try_from_gives = { λ choice given. meant_by given ≡ reading_of choice };
+
+    #[tactic(auto, unfolding(answers::specs::Answers::reading_of))]
+    fn try_from(choice: u32) -> Result<Reading, BadChoice> {
+        match choice {
+            1 => Ok(Reading::Strict),
+            2 => Ok(Reading::Kleene),
+            3 => Ok(Reading::Relational),
+            _ => Err(BadChoice),
+        }
     }
 }

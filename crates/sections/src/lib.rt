@@ -7,10 +7,10 @@ ghost use Rattle.table.specs.Marks.{mark_of};
 ghost use Rattle.answers.specs.Sections.{end_of};
 ghost use Rattle.sections.specs.Places.{places_of, array_run_of};
 
-use table::Mark;
+use table::{Mark, marked, record_at, record_count};
 
 // The record at which each section begins, and how many arrays there are. The variables begin at record 1.
-#[derive(Clone, Copy)]
+#[derive(Clone, Copy, Debug, PartialEq, Eq)]
 pub struct Places {
     pub slots: usize,
     pub arrays: usize,
@@ -21,7 +21,7 @@ pub struct Places {
 }
 
 // The arrays from a record on: the record behind their elements, and how many they are.
-#[derive(Clone, Copy)]
+#[derive(Clone, Copy, Debug, PartialEq, Eq)]
 pub struct ArrayRun {
     pub end: usize,
     pub count: usize,
@@ -32,15 +32,13 @@ pub fn run_end(table: &[u8], m: Mark, from: usize) -> usize
     requires { length table.now % record_size ≡ 0 }
     ensures { result ≡ end_of table.now (mark_of m) from }
 {
-    let n = table::record_count(table);
-    let mut p = from;
-    while p < n {
-        if !table::marked(table, m, p) {
+    let n = record_count(table);
+    for p in from..n {
+        if !marked(table, m, p) {
             return p;
         }
-        p += 1;
     }
-    p
+    from.max(n)
 }
 
 // The arrays from `from` on, each behind the elements of the one before it.
@@ -48,14 +46,13 @@ pub fn array_run(table: &[u8], from: usize) -> ArrayRun
     requires { length table.now % record_size ≡ 0 }
     ensures { result ≡ array_run_of table.now from }
 {
-    let n = table::record_count(table);
+    let n = record_count(table);
     let mut p = from;
     let mut count = 0;
-    while p < n {
-        if !table::marked(table, Mark::Array, p) {
-            return ArrayRun { end: p, count };
-        }
-        p = p + 1 + table::magnitude(table::y_bits(table, p));
+    // Kept: each step is as long as the array, so no range has it, and a chain of `successors` would yield the end or the count, not both.
+    while p < n && marked(table, Mark::Array, p) {
+        let (_, elements) = record_at(table, p).named();
+        p = p + 1 + elements as usize;
         count += 1;
     }
     ArrayRun { end: p, count }
@@ -67,14 +64,16 @@ pub fn find_places(table: &[u8]) -> Places
 {
     let slots = run_end(table, Mark::Variable, 1);
     let arrays = run_end(table, Mark::Slot, slots);
-    let run = array_run(table, arrays);
-    let nodes = run.end;
+    let ArrayRun {
+        end: nodes,
+        count: array_count,
+    } = array_run(table, arrays);
     let constraints = run_end(table, Mark::Node, nodes);
     let rest = run_end(table, Mark::Constraint, constraints);
     Places {
         slots,
         arrays,
-        array_count: run.count,
+        array_count,
         nodes,
         constraints,
         rest,

@@ -1,27 +1,31 @@
 -- An answer of the check tells its fault: the public check's promise, read as what the calls behind it rely on.
-use mathlib.Core.Path.{◌≡◌, refl, sym, ap, ◌∙◌}
+use mathlib.Core.Path.{◌≡◌, refl, ap}
 use Prim.Native.Nat.{ℕ}
 use native.Mathlib.Omega.{arith}
-use mathlib.Core.Bool.{Bool, true, false}
+use mathlib.Core.Bool.{false}
+use Rattle.std.specs.Prelude.{Result, Ok, Err}
 use mathlib.Core.List.{List}
 use mathlib.Core.Option.{Option, none, some}
 use Rattle.answers.specs.Check.{Refusal, check_fault}
 use Rattle.answers.specs.Answers as Answers
 use Rattle.answers.specs.Answers.{Answer, done, refused}
 use Rattle.answers.proofs.Numbers.{up_to, up_to→1≤, Numbered, Numbered-check}
-use Rattle.verdict.specs.declared.Check.{Check}
-use Rattle.verdict.specs.declared.Check.TheVariants.{Sound, BadLength, Misplaced, NotAllowed, NamesNothing, WrongType, OpenConstraint}
-use Rattle.verdict.specs.Results.{is_none, refusal_of, answer_of}
+use Rattle.verdict.specs.declared.Fault.{Fault}
+use Rattle.verdict.specs.declared.Fault.TheVariants.{BadLength, Misplaced, NotAllowed, NamesNothing, WrongType, OpenConstraint}
+use Rattle.verdict.specs.Results.{number_and_record, refusal_of, answer_of}
 use Rattle.verdict.proofs.Soundness.{sound_none}
 
-refusal_of-numbered : (c : Check) → Numbered (up_to 6) (refusal_of c)
-refusal_of-numbered Sound = tt
-refusal_of-numbered BadLength = tt
-refusal_of-numbered (Misplaced k) = tt
-refusal_of-numbered (NotAllowed k) = tt
-refusal_of-numbered (NamesNothing k) = tt
-refusal_of-numbered (WrongType k) = tt
-refusal_of-numbered (OpenConstraint k) = tt
+fault-numbered : (f : Fault) → Numbered (up_to 6) (some (number_and_record f))
+fault-numbered BadLength = tt
+fault-numbered (Misplaced k) = tt
+fault-numbered (NotAllowed k) = tt
+fault-numbered (NamesNothing k) = tt
+fault-numbered (WrongType k) = tt
+fault-numbered (OpenConstraint k) = tt
+
+refusal_of-numbered : (c : Result Unit Fault) → Numbered (up_to 6) (refusal_of c)
+refusal_of-numbered (Ok u) = tt
+refusal_of-numbered (Err f) = fault-numbered f
 
 -- what the check answers for a fault
 abbrev told : Option Refusal → Answer
@@ -39,10 +43,10 @@ told-injective (some r) (some q) a b e = same r q (ap (λ (x : Answer). x.number
     same r q m n = λ i. some (record { number = m i; at = n i })
 
 -- The check's answer tells the table's fault.
-pub answered→fault : (bs : List ℕ) (c : Check) → answer_of c ≡ Answers.check bs → refusal_of c ≡ check_fault bs
+pub answered→fault : (bs : List ℕ) (c : Result Unit Fault) → answer_of c ≡ Answers.check bs → refusal_of c ≡ check_fault bs
 unfolding answer_of Answers.check
 answered→fault bs c e = told-injective (refusal_of c) (check_fault bs) (refusal_of-numbered c) (Numbered-check (up_to 6) tt tt tt tt tt tt bs) e
 
--- A table that the check calls sound has no fault.
-pub sound→checked : (table : List ℕ) (c : Check) {b : Bool} → answer_of c ≡ Answers.check table → b ≡ is_none (refusal_of c) → b ≡ true → check_fault table ≡ none
-sound→checked table c e q f = sym (answered→fault table c e) ∙ sound_none (refusal_of c) q f
+-- A table that the check passes has no fault.
+pub sound→checked : (table : List ℕ) (c : Result Unit Fault) {u : Unit {0}} → answer_of c ≡ Answers.check table → c ≡ Ok u → check_fault table ≡ none
+sound→checked table c e p = sound_none (answered→fault table c e) p

@@ -5,22 +5,23 @@ use Prim.Native.Nat.{ℕ, ◌+◌, ◌≤◌, ◌<◌}
 use native.Mathlib.Omega.{arith}
 use native.Mathlib.Decide.{dec_lt}
 use mathlib.Core.Bool.{false}
-use mathlib.Core.List.{List, map}
-use mathlib.Core.Option.{none, some}
+use mathlib.Core.List.{List}
 use lib.IntN.{ℤ, nat_abs}
 use lib.ListN.{get_or, set, replicate, length-set, length-replicate}
 use lib.Seq.{get_or-set_same, get_or-set_other}
 use Rattle.numbers.proofs.Naturals.{lt_or_ge}
-use Rattle.numbers.proofs.Lists.{get_d_map, get_d_replicate_same}
+use Rattle.numbers.proofs.Lists.{get_d_replicate_same}
 use Rattle.language.specs.Syntax.{boolean, integer}
 use Rattle.language.specs.Tables.{truth_row, Tree, whole, bool, as_i, as_b, tree_at, tree_i, tree_b, fill, trees}
 use Rattle.language.specs.Meaning.{slot_at, count}
 use Rattle.language.specs.Steps.{cost_i, cost_b, cost}
 use Rattle.language.proofs.Trees.{tree-at}
+use Rattle.table.specs.Parts.{parts_of}
+use Rattle.table.specs.declared.Record.{Record}
 use Rattle.table.specs.Records.{kind_at, x_at, y_at}
-use Rattle.table.specs.Kinds.{Field, unused, any_number, truth_value, variable_number, slot_number, array_number, node_number, Kind, kinds, kind_of}
+use Rattle.table.specs.Kinds.{Field, unused, any_number, truth_value, variable_number, slot_number, array_number, node_number, kind_of}
 use Rattle.answers.specs.Sections.{nodes_at, node_count, rows, node_trees, declarations}
-use Rattle.answers.specs.Check.{node_sort, field_names, field_typed, check_fault}
+use Rattle.answers.specs.Check.{node_sort, field_names, field_typed}
 use Rattle.answers.proofs.Fields.{rows_below, names→, same_sort→≡, FieldFits→passed}
 use Rattle.answers.proofs.KindsFit.{FieldFits}
 use Rattle.answers.proofs.KindRows.{tree_sort, FieldBelow, by_fields}
@@ -28,12 +29,14 @@ use Rattle.answers.proofs.NodesFit.{NodePassed, none→NodePassed}
 use Rattle.answers.proofs.NodeTrees.{row-some, tree-sort}
 use Rattle.answers.proofs.Declared.{length-rows, get_d_rows}
 use Rattle.answers.proofs.Passed.{check_fault≡none→Passed}
-use Rattle.layout.proofs.Checked.{checked}
+use Rattle.layout.specs.declared.checked_table.CheckedTable.{CheckedTable}
+use Rattle.layout.proofs.Tables.{laid-in}
+use Rattle.steps.specs.declared.Shape.{Shape}
 use Rattle.steps.specs.Capped.{capped}
 use Rattle.steps.specs.Shapes.{shape_of}
 use Rattle.steps.specs.Kept.{Kept}
 use Rattle.steps.proofs.Caps.{capped-≤}
-use Rattle.steps.proofs.Shapes.{steps_by, FieldKept, kind-steps}
+use Rattle.steps.proofs.Shapes.{taken_over, FieldKept, kind-steps}
 
 module _ (bs : List ℕ) where
   -- ---- operands
@@ -94,25 +97,6 @@ module _ (bs : List ℕ) where
       (rw this_row ((by_fields (kind_at bs (nodes_at bs + n)) p.kind_is).below n _ _ (field_below n p.kind.field_x _ p.x_fits) (field_below n p.kind.field_y _ p.y_fits)))
       ∙ ap (fill (trees (rows bs))) this_row
 
-  module _ (sound : check_fault bs ≡ none) {n p : ℕ} {costs : List ℕ} (kept : Kept bs n costs) (h : n < node_count bs) (e : p ≡ nodes_at bs + n) where
-    pub kind-known : kind_at bs p < 31
-    kind-known = rw e ((checked bs sound).known_kinds n h)
-
-    shape_at : {k : Kind} → kind_of (kind_at bs (nodes_at bs + n)) ≡ some k → get_or (map shape_of kinds) (kind_at bs (nodes_at bs + n)) 0 ≡ shape_of (some k)
-    unfolding kind_of kinds
-    shape_at q = get_d_map shape_of kinds (kind_at bs (nodes_at bs + n)) none 0 ((checked bs sound).known_kinds n h) ∙ ap shape_of q
-
-    -- What the shape of a node's kind makes of the kept steps is the node's steps.
-    pub node-capped : {kind x y shape a b : ℕ} {shapes : List ℕ} → kind ≡ kind_at bs p → x ≡ nat_abs (x_at bs p) → y ≡ nat_abs (y_at bs p) → shapes ≡ map shape_of kinds
-        → a ≡ get_or costs x 0 → b ≡ get_or costs y 0 → get_or shapes kind 0 ≡ shape
-        → capped (steps_by shape a b (count (slot_at (declarations bs) x))) ≡ capped (cost (declarations bs) (tree_at (node_trees bs) n))
-    node-capped ek ex ey es ea eb q =
-        let passed = none→NodePassed bs n (nodes_at bs + n) ((check_fault≡none→Passed bs sound).nodes_passed n h) in
-        rw (← q, ea, eb, ek, ex, ey, es, e, shape_at passed.kind_is, node-tree n h passed)
-        ((kind-steps (kind_at bs (nodes_at bs + n)) passed.kind_is).steps (declarations bs) (node_trees bs) (x_at bs (nodes_at bs + n)) (y_at bs (nodes_at bs + n)) _ _
-        (field_kept kept (omega arith) passed.kind.field_x (x_at bs (nodes_at bs + n)) passed.x_fits)
-        (field_kept kept (omega arith) passed.kind.field_y (y_at bs (nodes_at bs + n)) passed.y_fits))
-
   -- ---- the pass
 
   pub kept-none : {costs : List ℕ} → costs ≡ replicate 5_000 0 → Kept bs 0 costs
@@ -132,3 +116,19 @@ module _ (bs : List ℕ) where
           before = λ k l. ⊎_elim (λ m. set-elsewhere k (λ z. omega arith) ∙ w.before k m) (λ m. let z : k ≡ n = omega arith in rw z (set_here n refl ∙ e)) (lt_or_ge k n);
           small = λ k. elim (dec_lt k n) [ yes l ↦ omega (arith, set-elsewhere k (λ z. omega arith), w.small k) | no l ↦ elim (dec_lt n k) [ yes m ↦ omega (arith, set-elsewhere k (λ z. omega arith), w.small k) | no m ↦ omega (arith, set_here k (omega arith), e, capped-≤ (cost (declarations bs) (tree_at (node_trees bs) n))) ] ];
         }
+
+module _ (t : CheckedTable) {n : ℕ} {costs : List ℕ} (kept : Kept t.bytes.now n costs) (h : n < node_count t.bytes.now) where
+  abbrev bytes : List ℕ
+  bytes = t.bytes.now
+
+  -- What the shape of a node's kind makes of the kept steps is the node's steps.
+  pub node-capped : {r : Record} {shape : Shape} {x y a b : ℕ} → r ≡ parts_of bytes (t.at.nodes + n) → x ≡ nat_abs r.x → y ≡ nat_abs r.y →
+      a ≡ get_or costs x 0 → b ≡ get_or costs y 0 → shape ≡ shape_of (kind_of r.kind)
+      → capped (1 + taken_over shape a b (count (slot_at (declarations bytes) x))) ≡ capped (cost (declarations bytes) (tree_at (node_trees bytes) n))
+  node-capped er ex ey ea eb es =
+      let passed = none→NodePassed bytes n (nodes_at bytes + n) ((check_fault≡none→Passed bytes t.sound).nodes_passed n h) in
+      let e = er ∙ ap (λ k. parts_of bytes (k + n)) (laid-in t).nodes in
+      rw (es, ea, eb, ex, ey, e, passed.kind_is, node-tree bytes n h passed)
+      ((kind-steps (kind_at bytes (nodes_at bytes + n)) passed.kind_is).steps (declarations bytes) (node_trees bytes) (x_at bytes (nodes_at bytes + n)) (y_at bytes (nodes_at bytes + n)) _ _
+      (field_kept bytes kept (omega arith) passed.kind.field_x (x_at bytes (nodes_at bytes + n)) passed.x_fits)
+      (field_kept bytes kept (omega arith) passed.kind.field_y (y_at bytes (nodes_at bytes + n)) passed.y_fits))

@@ -1,6 +1,6 @@
 -- The steps of a node by its kind's shape.
 use mathlib.Core.Path.{◌≡◌, refl}
-use Prim.Native.Nat.{ℕ, zero, suc, ◌+◌, ◌*◌}
+use Prim.Native.Nat.{ℕ, ◌+◌, ◌*◌}
 use mathlib.Core.List.{List}
 use mathlib.Core.Option.{Option, none, some}
 use lib.IntN.{ℤ, nat_abs}
@@ -11,29 +11,19 @@ use Rattle.language.specs.Steps.{cost_i, cost_b, cost}
 use Rattle.rules.specs.Soundness.{All}
 use Rattle.rules.proofs.Every.{All-get_d, ◌⸴◌}
 use Rattle.table.specs.Kinds.{Field, unused, any_number, truth_value, variable_number, slot_number, array_number, node_number, Kind, kinds, kind_of}
+use Rattle.steps.specs.declared.Shape.{Shape}
+use Rattle.steps.specs.declared.Shape.TheVariants.{Leaf, OfX, OfY, OfBoth, OfRange}
 use Rattle.steps.specs.Capped.{capped}
 use Rattle.steps.specs.Shapes.{names_node, names_slot, shape_of}
 use Rattle.steps.proofs.Caps.{capped-plus, capped-both, capped-times}
 
--- a node's steps from its operands' a and b and the number of its slot's values
-unfoldable pub steps_by : ℕ → ℕ → ℕ → ℕ → ℕ
-steps_by zero a b values = 1
-steps_by (suc zero) a b values = 1 + a
-steps_by (suc (suc zero)) a b values = 1 + b
-steps_by (suc (suc (suc zero))) a b values = 1 + (a + b)
-steps_by (suc (suc (suc (suc n)))) a b values = 1 + values * b
-
--- the shapes of a body, as a match tells them
-abbrev pub NoOther : ℕ → Type 0
-NoOther n = ((((Unit {0}) × (n ≡ 0 → ⊥)) × (n ≡ 1 → ⊥)) × (n ≡ 2 → ⊥)) × (n ≡ 3 → ⊥)
-
-pub steps-of-body : (n a b values : ℕ) → NoOther n → 1 + values * b ≡ steps_by n a b values
-unfolding steps_by
-steps-of-body zero a b values o = absurd (o.0.0.0.1 refl)
-steps-of-body (suc zero) a b values o = absurd (o.0.0.1 refl)
-steps-of-body (suc (suc zero)) a b values o = absurd (o.0.1 refl)
-steps-of-body (suc (suc (suc zero))) a b values o = absurd (o.1 refl)
-steps-of-body (suc (suc (suc (suc n)))) a b values o = refl
+-- the steps that a node takes over from its operands' a and b and the number of its slot's values
+abbrev pub taken_over : Shape → ℕ → ℕ → ℕ → ℕ
+taken_over Leaf a b values = 0
+taken_over OfX a b values = a
+taken_over OfY a b values = b
+taken_over OfBoth a b values = a + b
+taken_over OfRange a b values = values * b
 
 module _ (Γ : Declarations) (ts : List Tree) where
   -- where a field names a node, a is that node's capped steps
@@ -50,7 +40,7 @@ module _ (Γ : Declarations) (ts : List Tree) where
 -- The steps of a node of this kind, from those kept of its operands.
 pub record KindSteps (k : Kind) : Type 0 where
   pub steps : (Γ : Declarations) (ts : List Tree) (x y : ℤ) (a b : ℕ) → FieldKept Γ ts k.field_x x a → FieldKept Γ ts k.field_y y b
-      → capped (steps_by (shape_of (some k)) a b (count (slot_at Γ (nat_abs x)))) ≡ capped (cost Γ (fill ts (k.row x y)))
+      → capped (1 + taken_over (shape_of (some k)) a b (count (slot_at Γ (nat_abs x)))) ≡ capped (cost Γ (fill ts (k.row x y)))
 
 abbrev EntrySteps : Option Kind → Type 0
 EntrySteps none = Unit {0}
@@ -79,7 +69,7 @@ module _ (Γ : Declarations) (ts : List Tree) (z : ℤ) where
   values = count (slot_at Γ (nat_abs z))
 
 kinds-steps : All EntrySteps kinds
-unfolding kinds shape_of names_node names_slot steps_by cost cost_i cost_b fill
+unfolding kinds shape_of names_node names_slot cost cost_i cost_b fill
 kinds-steps =
     tt  -- 0
     ⸴ record { steps = λ Γ ts x y a b e f. refl }  -- 1

@@ -1,8 +1,10 @@
 -- Whose steps a node takes over, by the fields of its kind.
 -- Internal: a contract behind the public ones; no public promise cites it.
-use Rattle.std.specs.Prelude.{ℕ, ◌+◌, Bool, true, false, cond, ◌&&◌}
+use Rattle.std.specs.Prelude.{Bool, true, false, cond, ◌&&◌}
 use Rattle.std.proofs.Math.Option.{Option, none, some}
 use Rattle.table.specs.Kinds.{Field, unused, any_number, truth_value, variable_number, slot_number, array_number, node_number, Kind}
+use Rattle.steps.specs.declared.Shape.{Shape}
+use Rattle.steps.specs.declared.Shape.TheVariants.{Leaf, OfX, OfY, OfBoth, OfRange}
 
 -- a field that names a node
 unfoldable pub names_node : Field → Bool
@@ -24,8 +26,9 @@ names_slot slot_number = true
 names_slot (array_number t) = false
 names_slot (node_number t) = false
 
--- 0 nobody's, 1 those of node x, 2 of node y, 3 of both, 4 of the body y for each value of slot x
-unfoldable pub shape_of : Option Kind → ℕ
-shape_of none = 0
+-- whose steps a node of a kind takes over
+unfoldable pub shape_of : Option Kind → Shape
+shape_of none = Leaf
 shape_of (some k) =
-    cond (names_slot k.field_x && names_node k.field_y) 4 (cond (names_node k.field_x) 1 0 + cond (names_node k.field_y) 2 0)
+    cond (names_slot k.field_x && names_node k.field_y) OfRange
+    (cond (names_node k.field_x) (cond (names_node k.field_y) OfBoth OfX) (cond (names_node k.field_y) OfY Leaf))

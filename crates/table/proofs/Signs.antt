@@ -1,13 +1,11 @@
 -- The signed number that 32 bits stand for, by its sign, and as the machine has it.
-use mathlib.Core.Path.{◌≡◌, refl, ap}
-use Prim.Native.Nat.{ℕ, zero, suc, ◌+◌, ◌-◌, ◌≤◌, ◌<◌}
-use native.Mathlib.Nat.{zero-add}
+use mathlib.Core.Path.{◌≡◌, refl}
+use Prim.Native.Nat.{ℕ, ◌-◌, ◌≤◌, ◌<◌}
 use borrow.Author.Tests.{ltb-true, ltb-false, lt-ltb, le-ltb}
 use mathlib.Core.Bool.{Bool, true, false}
 use lib.Dec.{ltb}
-use lib.IntN.{ℤ, pos, negsuc, ◌-ℤ◌}
+use lib.IntN.{ℤ, pos, negsuc}
 use Rattle.table.specs.Records.{signed}
-use Rattle.table.specs.Words.{lift}
 
 -- below the sign bit the number is the bits
 pub signed_low : (w : ℕ) → w < 0x8000_0000 → signed w ≡ pos w
@@ -19,11 +17,6 @@ pub signed_high : (w : ℕ) → 0x8000_0000 ≤ w → signed w ≡ negsuc (0xfff
 unfolding signed
 signed_high w h = rw (le-ltb w 0x8000_0000 h)
 
--- −1 − k
-pub minus-one-minus : (k : ℕ) → negsuc 0 -ℤ pos k ≡ negsuc k
-minus-one-minus zero = refl
-minus-one-minus (suc k) = ap negsuc (ap suc (zero-add k))
-
 -- what holds on either side of the sign bit holds of every word
 pub by_sign : (P : ℤ → Type 0) (w : ℕ) → (w < 0x8000_0000 → P (pos w)) → (0x8000_0000 ≤ w → P (negsuc (0xffff_ffff - w))) → P (signed w)
 by_sign P w low high = go (ltb w 0x8000_0000) (ltb-true w 0x8000_0000) (ltb-false w 0x8000_0000)
@@ -31,11 +24,3 @@ by_sign P w low high = go (ltb w 0x8000_0000) (ltb-true w 0x8000_0000) (ltb-fals
     go : (b : Bool) → (b ≡ true → w < 0x8000_0000) → (b ≡ false → 0x8000_0000 ≤ w) → P (signed w)
     go true h k = rw (signed_low w (h refl)) (low (h refl))
     go false h k = rw (signed_high w (k refl)) (high (k refl))
-
-pub lift-low : (w : ℕ) → w < 0x8000_0000 → lift w ≡ w + 0x8000_0000
-unfolding lift
-lift-low w h = rw (lt-ltb w 0x8000_0000 h)
-
-pub lift-high : (w : ℕ) → 0x8000_0000 ≤ w → lift w ≡ w - 0x8000_0000
-unfolding lift
-lift-high w h = rw (le-ltb w 0x8000_0000 h)

@@ -1,4 +1,5 @@
+pub mod KindNumbers
 pub mod Kinds
 pub mod Marks
+pub mod Parts
 pub mod Records
-pub mod Words

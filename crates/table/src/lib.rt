@@ -1,29 +1,29 @@
 // The table on disk in code: numbers that cannot be confused, the marks, and the parts of a record.
 #![tactic(auto)]
 
-ghost use Rattle.std.specs.Prelude.{◌≡◌, ◌+◌, ◌*◌, ◌≤◌, ◌<◌, nat_abs};
+ghost use Rattle.std.specs.Prelude.{◌≡◌, ◌+◌, ◌*◌, ◌≤◌, ◌<◌, length, nat_abs};
 ghost use Rattle.table.specs.Records as Records;
-ghost use Rattle.table.specs.Records.{record_size, record_count, word_at, kind_at, aux_at, x_at, y_at};
-ghost use Rattle.table.specs.Marks.{mark_of};
-ghost use Rattle.table.specs.Words.{lift};
+ghost use Rattle.table.specs.Records.{record_count, word_at};
+ghost use Rattle.table.specs.Marks.{mark_of, letters_of};
+ghost use Rattle.table.specs.Parts.{parts_of};
 
 pub mod kind;
 
 // "Variables, slots, arrays and nodes are each numbered from 0".
-#[derive(Clone, Copy)]
+#[derive(Clone, Copy, Debug, PartialEq, Eq)]
 pub struct NodeNumber(pub u32);
 
-#[derive(Clone, Copy)]
+#[derive(Clone, Copy, Debug, PartialEq, Eq)]
 pub struct VariableNumber(pub u32);
 
-#[derive(Clone, Copy)]
+#[derive(Clone, Copy, Debug, PartialEq, Eq)]
 pub struct SlotNumber(pub u32);
 
-#[derive(Clone, Copy)]
+#[derive(Clone, Copy, Debug, PartialEq, Eq)]
 pub struct ArrayNumber(pub u32);
 
 // What a record is: its two letters.
-#[derive(Clone, Copy)]
+#[derive(Clone, Copy, Debug, PartialEq, Eq)]
 pub enum Mark {
     Head,
     Variable,
@@ -37,44 +37,34 @@ pub enum Mark {
 // The bytes of a record, and where in it its parts stand.
 pub const RECORD_SIZE: usize = 12;
 
-pub const KIND: usize = 2;
+const KIND: usize = 2;
 
 const AUX: usize = 3;
 
-pub const X: usize = 4;
+const X: usize = 4;
 
-pub const Y: usize = 8;
+const Y: usize = 8;
 
 // The longest table, in bytes and in records.
 pub const MOST_BYTES: usize = 60_000;
 
 pub const MOST_RECORDS: usize = 5_000;
 
-pub fn first_letter(m: Mark) -> u8
-    ensures { result ≡ Records.first_letter (mark_of m) }
-{
-    match m {
-        Mark::Head => 72,
-        Mark::Variable => 86,
-        Mark::Slot => 83,
-        Mark::Array => 65,
-        Mark::Element => 69,
-        Mark::Node => 78,
-        Mark::Constraint => 67,
-    }
-}
-
-pub fn second_letter(m: Mark) -> u8
-    ensures { result ≡ Records.second_letter (mark_of m) }
-{
-    match m {
-        Mark::Head => 68,
-        Mark::Variable => 82,
-        Mark::Slot => 76,
-        Mark::Array => 82,
-        Mark::Element => 76,
-        Mark::Node => 68,
-        Mark::Constraint => 78,
+impl Mark {
+    // The two letters in ASCII.
+    #[tactic(auto, unfolding(crate::specs::Marks::letters_of, crate::specs::Marks::mark_of, crate::specs::Records::first_letter, crate::specs::Records::second_letter))]
+    pub fn letters(self) -> [u8; 2]
+        ensures { result ≡ letters_of self }
+    {
+        match self {
+            Mark::Head => *b"HD",
+            Mark::Variable => *b"VR",
+            Mark::Slot => *b"SL",
+            Mark::Array => *b"AR",
+            Mark::Element => *b"EL",
+            Mark::Node => *b"ND",
+            Mark::Constraint => *b"CN",
+        }
     }
 }
 
@@ -90,100 +80,51 @@ pub fn marked(table: &[u8], m: Mark, p: usize) -> bool
     requires { p < record_count table.now }
     ensures { result ≡ Records.marked table.now (mark_of m) p }
 {
-    let first = first_letter(m);
-    let second = second_letter(m);
+    let [first, second] = m.letters();
     let at = RECORD_SIZE * p;
     table[at] == first && table[at + 1] == second
 }
 
-pub fn kind_at(table: &[u8], p: usize) -> u8
-    requires { p < record_count table.now }
-    ensures { result ≡ kind_at table.now p }
-{
-    table[RECORD_SIZE * p + KIND]
+// The parts of a record behind its mark.
+#[derive(Clone, Copy, Debug, PartialEq, Eq)]
+pub struct Record {
+    pub kind: u8,
+    pub aux: u8,
+    pub x: i32,
+    pub y: i32,
 }
 
-pub fn aux_at(table: &[u8], p: usize) -> u8
-    requires { p < record_count table.now }
-    ensures { result ≡ aux_at table.now p }
-{
-    table[RECORD_SIZE * p + AUX]
-}
-
-fn wide(b: u8) -> u32
-    ensures { result ≡ b }
-{
-    b as u32
-}
-
-// The 32 bits of four bytes, low byte first.
-fn word(a: u8, b: u8, c: u8, d: u8) -> u32
-    ensures { result ≡ a + 256 * (b + 256 * (c + 256 * d)) }
-{
-    wide(a) + 256 * (wide(b) + 256 * (wide(c) + 256 * wide(d)))
-}
-
-// The bits of x and y.
-pub fn x_bits(table: &[u8], p: usize) -> u32
-    requires { p < record_count table.now }
-    ensures { result ≡ word_at table.now (record_size * p + 4) }
-{
-    let at = RECORD_SIZE * p + X;
-    word(table[at], table[at + 1], table[at + 2], table[at + 3])
-}
-
-pub fn y_bits(table: &[u8], p: usize) -> u32
-    requires { p < record_count table.now }
-    ensures { result ≡ word_at table.now (record_size * p + 8) }
-{
-    let at = RECORD_SIZE * p + Y;
-    word(table[at], table[at + 1], table[at + 2], table[at + 3])
-}
-
-// What 32 bits stand for as a signed number.
-pub fn signed(bits: u32) -> i32
-    ensures { result ≡ Records.signed bits }
-{
-    if bits < 0x8000_0000 {
-        bits as i32
-    } else {
-        -1 - (0xffff_ffff - bits) as i32
+impl Record {
+    // The numbers that the fields x and y name.
+    pub fn named(&self) -> (u32, u32)
+        ensures x { result.0 ≡ nat_abs self.now.x }
+        ensures y { result.1 ≡ nat_abs self.now.y }
+        ensures x_bound { result.0 ≤ 0x8000_0000 }
+        ensures y_bound { result.1 ≤ 0x8000_0000 }
+    {
+        (self.x.unsigned_abs(), self.y.unsigned_abs())
     }
 }
 
-pub fn x_at(table: &[u8], p: usize) -> i32
+// Four bytes from byte `i` on, low byte first, as a signed number.
+fn number_at(table: &[u8], i: usize) -> i32
+    requires { i + 4 ≤ length table.now }
+    ensures { result ≡ Records.signed (word_at table.now i) }
+{
+    i32::from_le_bytes([table[i], table[i + 1], table[i + 2], table[i + 3]])
+}
+
+// What stands in record `p` behind its mark.
+#[tactic(auto, unfolding(crate::specs::Records::record_size, crate::specs::Records::record_count))]
+pub fn record_at(table: &[u8], p: usize) -> Record
     requires { p < record_count table.now }
-    ensures { result ≡ x_at table.now p }
+    ensures { result ≡ parts_of table.now p }
 {
-    signed(x_bits(table, p))
-}
-
-pub fn y_at(table: &[u8], p: usize) -> i32
-    requires { p < record_count table.now }
-    ensures { result ≡ y_at table.now p }
-{
-    signed(y_bits(table, p))
-}
-
-// The magnitude of the signed number that 32 bits stand for.
-pub fn magnitude(bits: u32) -> usize
-    ensures value { result ≡ nat_abs (Records.signed bits) }
-    ensures upper_bound { result ≤ 0x8000_0000 }
-{
-    if bits < 0x8000_0000 {
-        bits as usize
-    } else {
-        0x1_0000_0000 - bits as usize
-    }
-}
-
-// 32 bits as a number in the order of the signed numbers: the sign bit turned over.
-pub fn lifted(bits: u32) -> u32
-    ensures { result ≡ lift bits }
-{
-    if bits < 0x8000_0000 {
-        bits + 0x8000_0000
-    } else {
-        bits - 0x8000_0000
+    let at = RECORD_SIZE * p;
+    Record {
+        kind: table[at + KIND],
+        aux: table[at + AUX],
+        x: number_at(table, at + X),
+        y: number_at(table, at + Y),
     }
 }

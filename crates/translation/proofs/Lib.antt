@@ -1,4 +1,3 @@
-pub mod Copies
 pub mod Numbers
 pub mod Outcomes
 pub mod Wholes

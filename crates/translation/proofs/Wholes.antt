@@ -17,23 +17,40 @@ use Rattle.answers.proofs.Passed as Answers
 use Rattle.answers.proofs.NewRecords.{length-translation}
 use Rattle.layout.specs.Passed.{Passed}
 use Rattle.layout.proofs.Order.{ordered}
-use Rattle.translator.specs.Cells.{record_of}
+use Rattle.layout.proofs.Tables.{passed-in, laid-in}
+use Rattle.layout.specs.declared.checked_table.CheckedTable.{CheckedTable}
+use Rattle.table.specs.Marks.{mark_of}
+use Rattle.table.specs.declared.Mark.TheVariants.{Head}
+use Rattle.translator.specs.Cells.{record_of, bytes_of}
 use Rattle.numbers.proofs.Lists.{sets-++}
 use Rattle.translation.specs.Fronts.{front}
 
 -- The records before the nodes: HD is one of them, and they are within the table.
-pub before-nodes : (table : List ℕ) → Passed table → record_size ≤ record_size * nodes_at table
+pub record FrontPlace (t : CheckedTable) : Type 0 where
+  pub head : 12 ≤ 12 * t.at.nodes
+  pub inside : 12 * t.at.nodes ≤ length t.bytes.now
+  pub nodes : t.at.nodes ≡ nodes_at t.bytes.now
+  pub short : 12 * t.at.nodes ≤ 60_000
+
+pub front-place : (t : CheckedTable) → FrontPlace t
+unfolding record_size record_count
+front-place t =
+    let p = passed-in t in
+    let l = laid-in t in
+    record { head = omega (arith, l, l.order); inside = omega (arith, l, l.order, p.inside, p.whole); nodes = l.nodes; short = omega (arith, l, l.order, p.inside, p.whole, p.short) }
+
+before-nodes : (table : List ℕ) → Passed table → record_size ≤ record_size * nodes_at table
 unfolding record_size
 before-nodes table p = let o = ordered table p in omega (arith, o)
 
-pub nodes-within : (table : List ℕ) → Passed table → record_size * nodes_at table ≤ length table
+nodes-within : (table : List ℕ) → Passed table → record_size * nodes_at table ≤ length table
 unfolding record_size record_count
 nodes-within table p = omega (arith, p.inside, p.whole)
 
 -- HD and then the declarations.
-pub front-stores : (table : List ℕ) (records : ℕ) (out : List ℕ) {a b : List ℕ} → a ≡ sets out 0 (record_of 72 68 1 records 0)
+pub front-stores : (table : List ℕ) (records : ℕ) (out : List ℕ) {a b : List ℕ} → a ≡ sets out 0 (bytes_of (record { mark = Head; kind = 1; x = records; y = 0 }))
     → b ≡ sets a record_size (take (record_size * nodes_at table - record_size) (drop record_size table)) → b ≡ sets out 0 (front table records)
-unfolding front record_of record_bytes word_bytes bits_of first_letter second_letter record_size
+unfolding front bytes_of record_of record_bytes word_bytes bits_of mark_of first_letter second_letter record_size
 front-stores table records out e f = f ∙ rw e (sym (sets-++ out 0 (record_of 72 68 1 records 0) (take (record_size * nodes_at table - record_size) (drop record_size table))))
 
 length_front : (table : List ℕ) (records : ℕ) → Passed table → length (front table records) ≡ record_size * nodes_at table

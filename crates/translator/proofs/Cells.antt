@@ -1,29 +1,40 @@
 -- Laws of cells and of the rows of a rule.
 use mathlib.Core.Path.{◌≡◌, refl, sym, ap, ◌∙◌}
-use Prim.Native.Nat.{ℕ, ◌+◌, ◌-◌, ◌*◌, ◌/◌, ◌%◌, ◌≤◌, ◌<◌}
+use Prim.Native.Nat.{ℕ, ◌+◌, ◌-◌, ◌*◌, ◌≤◌, ◌<◌}
 use native.Mathlib.Omega.{arith}
-use native.Mathlib.Numerals.{add-one}
-use mathlib.Core.Bool.{cond}
 use mathlib.Core.List.{List, [], ◌∷◌, ◌++◌, map, append_assoc, append-nil}
-use lib.Dec.{eqb}
-use lib.ListN.{length, get_or, length-append, length-map}
-use lib.Seq.{sets}
-use borrow.Author.Tests.{lt-ltb, le-ltb}
+use lib.ListN.{length, get_or, take, length-append, length-map}
+use lib.Seq.{sets, length-take-le}
+use borrow.Author.Tests.{le-ltb}
 use Rattle.table.specs.Records.{ND, record_size, first_letter, second_letter, word_bytes}
-use Rattle.answers.specs.Sections.{listed}
-use Rattle.answers.proofs.Listed.{length-listed}
-use Rattle.translator.specs.Cells.{Cell, record_of, cell_bytes, cells_bytes, words, place, resolve, unpacked, row_at, rows_from}
+use Rattle.std.specs.Prelude.{unwrap_or}
+use Rattle.std.proofs.lemmas.List.{take_more}
+use Rattle.table.specs.Marks.{mark_of}
+use Rattle.table.specs.declared.Mark.TheVariants.{Node}
+use Rattle.translator.specs.declared.tables.Word.{Word}
+use Rattle.translator.specs.declared.tables.Word.TheVariants.{Zero, One, FirstOfX, SecondOfX, FirstOfY, SecondOfY, Named, FirstIndex, LastIndex}
+use Rattle.translator.specs.declared.tables.Row as Rules
+use Rattle.translator.specs.Cells.{Cell, record_of, bytes_of, cell_bytes, cells_bytes, words, place_of, number_of, place, resolve}
 use Rattle.numbers.proofs.Lists.{sets-++}
 
 -- ---- places
 
-pub place-word : (env : List ℕ) (n r : ℕ) → r < words → place env n r ≡ get_or env r 0
-unfolding place
-place-word env n r h = rw (lt-ltb r words h)
-
 pub place-row : (env : List ℕ) (n r : ℕ) → words ≤ r → place env n r ≡ n + (r - words)
 unfolding place
 place-row env n r h = rw (le-ltb r words h)
+
+-- A word's place is one of the words.
+pub place-of_word : (env : List ℕ) (n : ℕ) (word : Word) → place env n (place_of word) ≡ get_or env (place_of word) 0
+unfolding place place_of
+place-of_word env n Zero = refl
+place-of_word env n One = refl
+place-of_word env n FirstOfX = refl
+place-of_word env n SecondOfX = refl
+place-of_word env n FirstOfY = refl
+place-of_word env n SecondOfY = refl
+place-of_word env n Named = refl
+place-of_word env n FirstIndex = refl
+place-of_word env n LastIndex = refl
 
 -- ---- bytes
 
@@ -49,27 +60,26 @@ map-++ f (x ∷ xs) ys = ap (λ l. f x ∷ l) (map-++ f xs ys)
 
 -- ---- one row more
 
-module _ (env rows : List ℕ) (base own from : ℕ) where
-  abbrev pub written : ℕ → List ℕ
-  written j = cells_bytes (map (resolve env base own) (rows_from rows from j))
+module _ (env : List ℕ) (base own : ℕ) where
+  -- the bytes of rows
+  abbrev pub written : List Rules.Row → List ℕ
+  written rows = cells_bytes (map (resolve env base own) rows)
 
-  written-more : (j : ℕ) → written (j + 1) ≡ written j ++ cell_bytes (resolve env base own (row_at rows (from + j)))
-  unfolding rows_from listed cells_bytes
-  written-more j =
-      rw (add-one j, map-++ (resolve env base own) (listed j (λ i. row_at rows (from + i))) (row_at rows (from + j) ∷ []))
-      (cells_bytes-++ (map (resolve env base own) (listed j (λ i. row_at rows (from + i)))) (resolve env base own (row_at rows (from + j)) ∷ [])
-      ∙ ap (λ l. written j ++ l) (simp append-nil))
+  length_written : (rows : List Rules.Row) → length (written rows) ≡ record_size * length rows
+  length_written rows = length-cells_bytes (map (resolve env base own) rows) ∙ ap (λ k. record_size * k) (length-map rows (resolve env base own))
 
-  length_written : (j : ℕ) → length (written j) ≡ record_size * j
-  unfolding rows_from
-  length_written j = length-cells_bytes (map (resolve env base own) (rows_from rows from j)) ∙ ap (λ k. record_size * k) (length-map (rows_from rows from j) (resolve env base own) ∙ length-listed j (λ i. row_at rows (from + i)))
+  written-more : (rows : List Rules.Row) (row : Rules.Row) → written (rows ++ (row ∷ [])) ≡ written rows ++ cell_bytes (resolve env base own row)
+  unfolding cells_bytes
+  written-more rows row =
+      rw (map-++ (resolve env base own) rows (row ∷ []), cells_bytes-++ (map (resolve env base own) rows) (resolve env base own row ∷ [])) (ap (λ l. written rows ++ l) (simp append-nil))
 
-  pub rows_more : (o : List ℕ) {out new : List ℕ} (at j : ℕ) {kind x y : ℕ} → out ≡ sets o at (written j) → new ≡ sets out (at + 12 * j) (record_of 78 68 kind x y) → kind ≡ cond (eqb (get_or rows (from + j) 0 % 256) 0) own (get_or rows (from + j) 0 % 256) → x ≡ place env base (get_or rows (from + j) 0 / 256 % 256) → y ≡ place env base (get_or rows (from + j) 0 / 65_536 % 256) → new ≡ sets o at (written (j + 1))
-  unfolding record_size cell_bytes resolve row_at unpacked first_letter second_letter
-  rows_more o {out} {new} at j {kind} {x} {y} e f k p q =
-      f ∙ rw (e, k, p, q) (ap (λ i. sets (sets o at (written j)) (at + i) (cell_bytes (resolve env base own (row_at rows (from + j))))) (sym (length_written j))
-      ∙ sym (sets-++ o at (written j) (cell_bytes (resolve env base own (row_at rows (from + j))))) ∙ ap (sets o at) (sym (written-more j)))
-
-  pub rows_none : (o : List ℕ) (at : ℕ) → o ≡ sets o at (written 0)
-  unfolding rows_from listed cells_bytes
-  rows_none o at = refl
+  pub rows_more : (o : List ℕ) {out new : List ℕ} (rows : List Rules.Row) (d : Rules.Row) (at j : ℕ) {kind x y : ℕ} → j < length rows → out ≡ sets o at (written (take j rows))
+      → new ≡ sets out (at + 12 * j) (bytes_of (record { mark = Node; kind = kind; x = x; y = y }))
+      → kind ≡ unwrap_or (get_or rows j d).kind own → x ≡ place env base (number_of (get_or rows j d).x) → y ≡ place env base (number_of (get_or rows j d).y)
+      → new ≡ sets o at (written (take (j + 1) rows))
+  unfolding record_size cell_bytes resolve bytes_of mark_of
+  rows_more o {out} {new} rows d at j {kind} {x} {y} h e f k p q =
+      let n = length_written (take j rows) in
+      let t = length-take-le j rows (omega arith) in
+      f ∙ rw (e, k, p, q) (ap (λ i. sets (sets o at (written (take j rows))) (at + i) (cell_bytes (resolve env base own (get_or rows j d)))) (omega (arith, n, t))
+      ∙ sym (sets-++ o at (written (take j rows)) (cell_bytes (resolve env base own (get_or rows j d)))) ∙ ap (sets o at) (sym (ap written (take_more rows j d h) ∙ written-more (take j rows) (get_or rows j d))))

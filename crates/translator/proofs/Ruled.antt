@@ -17,12 +17,11 @@ use Rattle.rules.specs.Rules.{Rule, rule, guard, index, last}
 use Rattle.rules.specs.Writing.{write_rule, write_b, leaf, unary, in_turn}
 use Rattle.table.specs.Records.{bits_of}
 use Rattle.table.specs.Kinds.{kinds, kind_of, row_in}
-use Rattle.answers.specs.Sections.{listed}
-use Rattle.translator.specs.Cells.{place, fields, resolve, unpacked, row_at, rows_from}
-use Rattle.translator.specs.Plans.{rule_rows, plans_with, rule_plans, plan_of, plan_at, plan_rows}
+use Rattle.translator.specs.Cells.{place_of, number_of, place, over_references, fields, resolve}
+use Rattle.translator.specs.Plans.{rule_rows, rules, under, plan_at, rows_of, plan_rows}
 use Rattle.translator.specs.Words.{literal, looks_up, node_numbers, node_words}
 use Rattle.translator.proofs.Moved.{moved, over_i, over_b, Fit, Over, moves_rule}
-use Rattle.translator.proofs.Compiled.{references, reference_of, reference_x, symbolic, owned, Compiled, compiled}
+use Rattle.translator.proofs.Compiled.{references, reference_of, reference_x, symbolic, compiled}
 
 module _ (ρ : Reading) (Γ : Declarations) (firsts seconds : List ℕ) (x y : ℤ) (n : ℕ) where
   abbrev env : ℕ → List ℕ
@@ -36,7 +35,7 @@ module _ (ρ : Reading) (Γ : Declarations) (firsts seconds : List ℕ) (x y : �
   unfolding place node_words node_numbers bits_of
   fit k =
       record {
-        bits = split 16 (λ t. bits_of (numbers k t) ≡ place (env k) n t) (refl, (refl, (refl, (refl, (refl, (refl, (refl, (refl, (refl, (refl, (refl, (refl, (refl, (refl, (refl, (refl, tt)))))))))))))))) (λ t. refl);
+        bits = split 9 (λ t. bits_of (numbers k t) ≡ place (env k) n t) (refl, (refl, (refl, (refl, (refl, (refl, (refl, (refl, (refl, tt))))))))) (λ t. refl);
         zero_is = refl;
         one_is = refl;
       }
@@ -65,18 +64,18 @@ module _ (ρ : Reading) (Γ : Declarations) (firsts seconds : List ℕ) (x y : �
   -- The rows of the plan with the words in place, and the places of both companions.
   pub record WritesPlan (k : ℕ) : Type 0 where
     pub rows : map fields (write_rule (rule_of ρ Γ firsts seconds x y n k) n).rows ≡ map (resolve (node_words Γ firsts seconds k x y) n k) (plan_rows ρ k)
-    pub first : (write_rule (rule_of ρ Γ firsts seconds x y n k) n).first ≡ place (node_words Γ firsts seconds k x y) n (plan_at ρ k).first
-    pub second : (write_rule (rule_of ρ Γ firsts seconds x y n k) n).second ≡ place (node_words Γ firsts seconds k x y) n (plan_at ρ k).second
+    pub first : (write_rule (rule_of ρ Γ firsts seconds x y n k) n).first ≡ place (node_words Γ firsts seconds k x y) n (number_of (plan_at ρ k).first)
+    pub second : (write_rule (rule_of ρ Γ firsts seconds x y n k) n).second ≡ place (node_words Γ firsts seconds k x y) n (number_of (plan_at ρ k).second)
 
   formula_writes : (k : ℕ) → k < 31 → (k ≡ 2 → ⊥) → WritesPlan k
-  unfolding resolve
+  unfolding resolve over_references
   formula_writes k h two =
       let w = node_words Γ firsts seconds k x y in
       let v = numbers ρ Γ firsts seconds x y n k in
       let m = moves_rule w n v (fit ρ Γ firsts seconds x y n k) (symbolic ρ k) (rule_of ρ Γ firsts seconds x y n k) (below_at 31 (Ruled ρ Γ firsts seconds x y n) (ruled ρ Γ firsts seconds x y n) k h two) in
-      let r = below_at 31 (Compiled ρ) (compiled ρ) k h two in
+      let r = compiled ρ k h two in
       record {
-        rows = m.rows ∙ ap (map (moved w n v)) r.rows ∙ map-map (moved w n v) (owned k) (plan_rows ρ k);
+        rows = m.rows ∙ ap (map (moved w n v)) r.rows ∙ map-map (moved w n v) (over_references k) (plan_rows ρ k);
         first = m.first ∙ ap (place w n) r.first;
         second = m.second ∙ ap (place w n) r.second;
       }
@@ -87,7 +86,7 @@ module _ (Γ : Declarations) (firsts seconds : List ℕ) (x y : ℤ) (n : ℕ) w
   next = omega arith
 
   constant-writes : (ρ : Reading) → WritesPlan ρ Γ firsts seconds x y n 2
-  unfolding rule row_in kind_of kinds write_rule write_b leaf unary in_turn fields bits_of resolve place node_words node_numbers literal looks_up plan_rows plan_at rule_rows rule_plans plans_with plan_of rows_from row_at unpacked listed
+  unfolding rule row_in kind_of kinds write_rule write_b leaf unary in_turn fields bits_of resolve place node_words node_numbers literal looks_up plan_rows rows_of plan_at under rule_rows rules number_of place_of
   constant-writes strict = record { rows = rw (← next); first = next; second = omega arith }
   constant-writes kleene = record { rows = rw (← next); first = next; second = omega arith }
   constant-writes relational = record { rows = rw (← next); first = next; second = omega arith }

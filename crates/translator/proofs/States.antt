@@ -13,9 +13,10 @@ use Rattle.table.specs.Records.{kind_at, x_at, y_at}
 use Rattle.answers.specs.Sections.{listed, nodes_at, node_count, constraint_count, row_of, rows, constraints, declarations}
 use Rattle.answers.specs.Answers.{translated, new_count}
 use Rattle.answers.proofs.Listed.{length-listed}
-use Rattle.translator.specs.Cells.{fields, resolve, row_at, rows_from}
-use Rattle.translator.specs.Plans.{rule_rows, plan_at, plan_rows}
+use Rattle.translator.specs.Cells.{fields, resolve}
+use Rattle.translator.specs.Plans.{plan_at, plan_rows}
 use Rattle.translator.specs.Words.{node_words}
+use Rattle.translator.proofs.Planned.{length-plan_rows}
 use Rattle.translator.proofs.Ruled.{WritesPlan, writes_plan}
 
 module _ (ρ : Reading) (Γ : Declarations) where
@@ -47,7 +48,7 @@ module _ (bs : List ℕ) (ρ : Reading) where
 
   -- One more node adds as many rows as its plan has.
   pub length-state-suc : (n : ℕ) {p : ℕ} → p ≡ nodes_at bs + n → kind_at bs p < 31 → length (state (n + 1)).rows ≡ length (state n).rows + (plan_at ρ (kind_at bs p)).count
-  unfolding step append rule_after row_of plan_rows rows_from
+  unfolding step append rule_after row_of
   length-state-suc n {p} e h =
       ap (λ (t : Translated). length t.rows) (state-suc n)
       ∙ rw (← e) (length-append (state n).rows (write_rule (rule_after ρ (declarations bs) (state n) (row_of bs p)) (length (state n).rows)).rows
@@ -55,7 +56,7 @@ module _ (bs : List ℕ) (ρ : Reading) where
       (sym (length-map (write_rule (rule_after ρ (declarations bs) (state n) (row_of bs p)) (length (state n).rows)).rows fields)
       ∙ ap length (node-writes n e h).rows
       ∙ length-map (plan_rows ρ (kind_at bs p)) (resolve (node_words (declarations bs) (state n).firsts (state n).seconds (kind_at bs p) (x_at bs p) (y_at bs p)) (length (state n).rows) (kind_at bs p))
-      ∙ length-listed (plan_at ρ (kind_at bs p)).count (λ j. row_at rule_rows ((plan_at ρ (kind_at bs p)).from + j))))
+      ∙ length-plan_rows ρ (kind_at bs p) h))
 
   pub new-count : (n : ℕ) → n ≡ node_count bs → nodes_at bs + constraint_count bs + length (state n).rows ≡ new_count bs ρ
   unfolding new_count translated rows constraints state

@@ -1,16 +1,21 @@
 -- Runs of stores.
 use mathlib.Core.Path.{◌≡◌, sym, ap, ◌∙◌}
-use Prim.Native.Nat.{ℕ, suc, ◌+◌}
+use Prim.Native.Nat.{ℕ, suc, ◌+◌, ◌≤◌}
 use native.Mathlib.Omega.{arith}
-use mathlib.Core.List.{List, [], ◌∷◌, ◌++◌}
-use lib.ListN.{set}
-use lib.Seq.{sets}
+use mathlib.Core.List.{List, [], ◌∷◌, ◌++◌, append_assoc}
+use lib.ListN.{length, set}
+use lib.Seq.{sets, sets-eq, drop-drop}
+use borrow.Rule.Slice.PartMut.{put_mid}
 use Rattle.numbers.proofs.Lists.{sets-++}
 use Rattle.table.specs.Records.{word_bytes}
 use Rattle.translator.specs.Cells.{record_of}
 
+-- A whole part.
+pub part-stored : (xs ys : List ℕ) (at k : ℕ) → length ys ≡ k → at + k ≤ length xs → put_mid at k xs ys ≡ sets xs at ys
+part-stored xs ys at k e h = rw (sets-eq ys xs at (omega arith), e) (simp (append_assoc, drop-drop))
+
 -- Four stores in a row.
-pub four_stores : (l : List ℕ) (i a b c d : ℕ) → set (set (set (set l i a) (i + 1) b) (i + 2) c) (i + 3) d ≡ sets l i (a ∷ b ∷ c ∷ d ∷ [])
+four_stores : (l : List ℕ) (i a b c d : ℕ) → set (set (set (set l i a) (i + 1) b) (i + 2) c) (i + 3) d ≡ sets l i (a ∷ b ∷ c ∷ d ∷ [])
 four_stores l i a b c d =
     let e : i + 1 ≡ suc i = omega arith in
     let f : i + 2 ≡ suc (suc i) = omega arith in

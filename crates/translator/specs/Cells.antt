@@ -1,15 +1,25 @@
--- A node record of the new table as its kind and two words, and a rule's row, whose words are references.
+-- A node record of the new table as its kind and two words, and a rule's row, which has references in their place.
 -- Internal: a contract behind the public ones; no public promise cites it.
-use Rattle.std.specs.Prelude.{ℕ, ◌+◌, ◌-◌, ◌*◌, ◌/◌, ◌%◌, cond, List, [], ◌∷◌, ◌++◌, eqb, ltb, get_or}
+use Rattle.std.specs.Prelude.{ℕ, ◌+◌, ◌-◌, cond, List, [], ◌∷◌, ◌++◌, ltb, get_or, unwrap_or}
 use Rattle.language.specs.Tables.{Row, constant_row, variable_row, slot_row, arith_row, divide_row, negate_row, bool_to_int_row, lookup_row, sum_row, truth_row, variable_b_row, lookup_b_row, connect_row, negation_row, compare_row, quantify_row}
 use Rattle.language.specs.Meaning.{number}
 use Rattle.table.specs.Records.{ND, first_letter, second_letter, bits_of, word_bytes}
+use Rattle.table.specs.Marks.{mark_of}
 use Rattle.table.specs.Kinds.{arithmetic_kind, division_kind, connective_kind, comparison_kind, quantifier_kind}
-use Rattle.answers.specs.Sections.{listed}
+use Rattle.translator.specs.declared.tables.Word.{Word}
+use Rattle.translator.specs.declared.tables.Word.TheVariants.{Zero, One, FirstOfX, SecondOfX, FirstOfY, SecondOfY, Named, FirstIndex, LastIndex}
+use Rattle.translator.specs.declared.tables.Reference.{Reference}
+use Rattle.translator.specs.declared.tables.Reference.TheVariants.{Handed, Written}
+use Rattle.translator.specs.declared.tables.Row as Rules
+use Rattle.translator.specs.declared.writer.NewRecord.{NewRecord}
 
 -- a record's bytes
 unfoldable pub record_of : ℕ → ℕ → ℕ → ℕ → ℕ → List ℕ
 record_of first second kind x y = first ∷ second ∷ kind ∷ 0 ∷ (word_bytes x ++ word_bytes y)
+
+-- the bytes of a record to be written
+unfoldable pub bytes_of : NewRecord → List ℕ
+bytes_of r = record_of (first_letter (mark_of r.mark)) (second_letter (mark_of r.mark)) r.kind r.x r.y
 
 pub record Cell : Type 0 where
   pub kind : ℕ
@@ -30,33 +40,38 @@ cells_bytes (c ∷ cs) = cell_bytes c ++ cells_bytes cs
 
 -- ---- rows of rules
 
--- how many words a node hands to its rule: a reference below it names one of them, a reference from it on a row of the rule itself
+-- how many words a node hands to its rule
 abbrev pub words : ℕ
-words = 16
+words = 9
+
+-- the place of a word among them
+unfoldable pub place_of : Word → ℕ
+place_of Zero = 0
+place_of One = 1
+place_of FirstOfX = 2
+place_of SecondOfX = 3
+place_of FirstOfY = 4
+place_of SecondOfY = 5
+place_of Named = 6
+place_of FirstIndex = 7
+place_of LastIndex = 8
+
+-- a reference as a number: one below `words` names a word, one from it on a row of the rule itself
+unfoldable pub number_of : Reference → ℕ
+number_of (Handed word) = place_of word
+number_of (Written j) = words + j
 
 -- what a reference stands for in a rule whose first row gets number n
 unfoldable pub place : List ℕ → ℕ → ℕ → ℕ
 place env n r = cond (ltb r words) (get_or env r 0) (n + (r - words))
 
--- a rule's row written out; kind 0 is the node's own kind
-unfoldable pub resolve : List ℕ → ℕ → ℕ → Cell → Cell
-resolve env n own c = cell (cond (eqb c.kind 0) own c.kind) (place env n c.x) (place env n c.y)
+-- a rule's row over references, for a node of kind `own`
+unfoldable pub over_references : ℕ → Rules.Row → Cell
+over_references own r = cell (unwrap_or r.kind own) (number_of r.x) (number_of r.y)
 
--- a row as one number: its kind, and the references of its x and y
-abbrev pub row : ℕ → ℕ → ℕ → ℕ
-row k x y = k + 256 * x + 65_536 * y
-
--- a row taken apart
-unfoldable pub unpacked : ℕ → Cell
-unpacked w = cell (w % 256) (w / 256 % 256) (w / 65_536 % 256)
-
--- row r of a list of rows
-unfoldable pub row_at : List ℕ → ℕ → Cell
-row_at rows r = unpacked (get_or rows r 0)
-
--- `count` rows from row `from` on
-unfoldable pub rows_from : List ℕ → ℕ → ℕ → List Cell
-rows_from rows from count = listed count (λ j. row_at rows (from + j))
+-- a rule's row written out
+unfoldable pub resolve : List ℕ → ℕ → ℕ → Rules.Row → Cell
+resolve env n own r = cell (unwrap_or r.kind own) (place env n (number_of r.x)) (place env n (number_of r.y))
 
 -- the cell of a row
 unfoldable pub fields : Row → Cell

@@ -20,7 +20,7 @@ module _ (Γ : Declarations) (firsts seconds : List ℕ) where
   node_numbers k x y =
       pos 0 ∷ pos 1 ∷ pos (get_or firsts (nat_abs x) 0) ∷ pos (get_or seconds (nat_abs x) 0) ∷ pos (get_or firsts (nat_abs y) 0)
       ∷ pos (get_or seconds (nat_abs y) 0) ∷ literal k x ∷ cond (looks_up k) (array_at Γ (nat_abs x)).first (pos 0)
-      ∷ cond (looks_up k) (last (array_at Γ (nat_abs x))) (pos 0) ∷ pos 0 ∷ pos 0 ∷ pos 0 ∷ pos 0 ∷ pos 0 ∷ pos 0 ∷ pos 0 ∷ []
+      ∷ cond (looks_up k) (last (array_at Γ (nat_abs x))) (pos 0) ∷ []
 
   unfoldable pub node_words : ℕ → ℤ → ℤ → List ℕ
   node_words k x y = map bits_of (node_numbers k x y)

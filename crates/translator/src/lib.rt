@@ -3,14 +3,11 @@
 
 ghost use Rattle.std.specs.Prelude.{◌≡◌};
 ghost use Rattle.answers.specs.Answers.{new_count};
-ghost use Rattle.layout.specs.Passed.{Passed};
-ghost use Rattle.sections.specs.Places.{places_of};
 ghost use Rattle.reading.specs.Readings.{meant};
 
-use crate::plans::{plan_at, plans};
-use layout::fields::kind_at;
+use crate::plans::plan_of;
+use layout::checked_table::CheckedTable;
 use reading::Reading;
-use sections::Places;
 
 pub mod plans;
 pub mod rows;
@@ -18,20 +15,13 @@ pub mod tables;
 pub mod writer;
 
 // How many records the new table has.
-pub fn new_records(s: &[u8], at: Places, reading: Reading) -> usize
-    requires passed { Passed s.now }
-    requires at_value { at ≡ places_of s.now }
-    ensures { result ≡ new_count s.now (meant reading) }
+pub fn new_records(table: &CheckedTable, reading: Reading) -> usize
+    ensures { result ≡ new_count table.now.bytes.now (meant reading) }
 {
-    let plans = plans(reading);
-    let nodes = at.nodes;
-    let count = at.constraints - nodes;
-    let mut total = nodes + (at.rest - at.constraints);
-    let mut n = 0;
-    while n < count {
-        let plan = plan_at(&plans, kind_at(s, nodes + n));
-        total += plan.count;
-        n += 1;
+    let at = table.at;
+    let mut total = at.nodes + table.constraint_count();
+    for p in at.nodes..at.constraints {
+        total += usize::from(plan_of(reading, table.record_at(p).kind).count);
     }
     total
 }

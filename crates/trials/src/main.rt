@@ -2,277 +2,242 @@
 // answer's number and record, behind them the steps and "all are 1" of an evaluation or the length of a translation.
 #![tactic(auto)]
 
-ghost use Rattle.std.specs.Prelude.{◌≤◌};
+ghost use Rattle.std.specs.Prelude.{◌<◌};
 
-use evaluation::Evaluation;
 use std::io;
-use table::{MOST_BYTES, Mark, RECORD_SIZE};
-use translation::Translation;
-use translator::writer::put_record;
-use verdict::Check;
+use table::kind::Kind;
+use table::{MOST_RECORDS, Mark, RECORD_SIZE};
 
-// A small table: up to eight records.
-const SMALL: usize = 96;
+// One record more than a table may have.
+const TOO_MANY: usize = MOST_RECORDS + 1;
 
-// As many bytes as a table may have, and one record more.
-const LONGEST: usize = MOST_BYTES;
+// ---- tables, an array of records each
 
-const TOO_LONG: usize = MOST_BYTES + RECORD_SIZE;
+type Record = [u8; RECORD_SIZE];
 
-// ---- tables
-
-// Puts record `k` of a small table.
-fn put(t: &mut [u8; SMALL], k: usize, m: Mark, kind: u8, x: u32, y: u32) {
-    if k < 8 {
-        let first = table::first_letter(m);
-        let second = table::second_letter(m);
-        put_record(t, RECORD_SIZE * k, first, second, kind, x, y);
-    }
+fn record(mark: Mark, kind: u8, x: i32, y: i32) -> Record {
+    let [first, second] = mark.letters();
+    let [x0, x1, x2, x3] = x.to_le_bytes();
+    let [y0, y1, y2, y3] = y.to_le_bytes();
+    [first, second, kind, 0, x0, x1, x2, x3, y0, y1, y2, y3]
 }
 
-// A header with this count, and room for more records.
-fn headed(count: u32) -> [u8; SMALL] {
-    let mut t = [0u8; SMALL];
-    put(&mut t, 0, Mark::Head, 1, count, 0);
-    t
+// The header of a table of so many records.
+fn header(count: i32) -> Record {
+    record(Mark::Head, 1, count, 0)
 }
 
-// The bytes of so many records of a small table.
-fn bytes(records: usize) -> usize
-    ensures { result ≤ 96 }
-{
-    if records < 8 {
-        RECORD_SIZE * records
-    } else {
-        SMALL
-    }
+// An integer variable of this domain.
+fn variable(low: i32, high: i32) -> Record {
+    record(Mark::Variable, 1, low, high)
+}
+
+fn node(kind: Kind, x: i32, y: i32) -> Record {
+    record(Mark::Node, kind as u8, x, y)
+}
+
+// The constraint that a node is true.
+fn constraint(node: i32) -> Record {
+    record(Mark::Constraint, 0, node, 0)
 }
 
 // One true constraint.
-fn truth() -> [u8; SMALL] {
-    let mut t = headed(3);
-    put(&mut t, 1, Mark::Node, 2, 1, 0);
-    put(&mut t, 2, Mark::Constraint, 0, 0, 0);
-    t
+fn truth() -> [Record; 3] {
+    [header(3), node(Kind::TruthValue, 1, 0), constraint(0)]
 }
 
 // One integer constant, which no constraint reaches.
-fn constant(x: u32) -> [u8; SMALL] {
-    let mut t = headed(2);
-    put(&mut t, 1, Mark::Node, 1, x, 0);
-    t
+fn constant(x: i32) -> [Record; 2] {
+    [header(2), node(Kind::Constant, x, 0)]
 }
 
 // One constraint: that a constant is itself.
-fn itself(x: u32) -> [u8; SMALL] {
-    let mut t = headed(4);
-    put(&mut t, 1, Mark::Node, 1, x, 0);
-    put(&mut t, 2, Mark::Node, 25, 0, 0);
-    put(&mut t, 3, Mark::Constraint, 0, 1, 0);
-    t
+fn itself(x: i32) -> [Record; 4] {
+    [
+        header(4),
+        node(Kind::Constant, x, 0),
+        node(Kind::Equal, 0, 0),
+        constraint(1),
+    ]
 }
 
 // "P4 y in 0..1, ¬(1/y = 1)"; "P4 as nodes: constant 1, variable 0, div 0 1, = 2 0, not 3; 8 records"
-fn p4() -> [u8; SMALL] {
-    let mut t = headed(8);
-    put(&mut t, 1, Mark::Variable, 1, 0, 1);
-    put(&mut t, 2, Mark::Node, 1, 1, 0);
-    put(&mut t, 3, Mark::Node, 3, 0, 0);
-    put(&mut t, 4, Mark::Node, 9, 0, 1);
-    put(&mut t, 5, Mark::Node, 25, 2, 0);
-    put(&mut t, 6, Mark::Node, 24, 3, 0);
-    put(&mut t, 7, Mark::Constraint, 0, 4, 0);
-    t
-}
-
-// ---- answers
-
-fn say(rt: &impl Print, n: u32) -> io::Result<()> {
-    print!(rt; " {n}")
-}
-
-fn say_answer(rt: &impl Print, number: u32, at: u32) -> io::Result<()> {
-    say(rt, number)?;
-    say(rt, at)
-}
-
-fn say_check(rt: &impl Print, c: Check) -> io::Result<()> {
-    say_answer(rt, verdict::number(c), verdict::record(c))
-}
-
-fn say_translation(rt: &impl Print, t: Translation) -> io::Result<()> {
-    let number = translation::number(t);
-    say_answer(rt, number, translation::record(t))?;
-    if number == 0 {
-        say(rt, translation::length(t))?;
-    }
-    Ok(())
-}
-
-fn say_evaluation(rt: &impl Print, e: Evaluation) -> io::Result<()> {
-    let number = evaluation::number(e);
-    say_answer(rt, number, evaluation::record(e))?;
-    if number == 0 {
-        let totals = evaluation::totals_of(e);
-        say(rt, totals.steps)?;
-        say(rt, if totals.all { 1 } else { 0 })?;
-    }
-    Ok(())
+fn p4() -> [Record; 8] {
+    [
+        header(8),
+        variable(0, 1),
+        node(Kind::Constant, 1, 0),
+        node(Kind::Variable, 0, 0),
+        node(Kind::Div, 0, 1),
+        node(Kind::Equal, 2, 0),
+        node(Kind::Not, 3, 0),
+        constraint(4),
+    ]
 }
 
 // ---- one trial
 
-fn check(rt: &impl Print, name: &str, t: &[u8]) -> io::Result<()> {
+fn say(rt: &impl Print, name: &str, answer: &[u32]) -> io::Result<()> {
     print!(rt; "{name}")?;
-    say_check(rt, checker::check(t))?;
+    for n in answer {
+        print!(rt; " {n}")?;
+    }
     println!(rt)
 }
 
-fn translate(rt: &impl Print, name: &str, choice: u32, t: &[u8], out: &mut [u8]) -> io::Result<()> {
-    print!(rt; "{name}")?;
-    say_translation(rt, translation::translate(choice, t, out))?;
-    println!(rt)
+fn check(rt: &impl Print, name: &str, table: &[Record]) -> io::Result<()> {
+    let c = checker::check(table.as_flattened());
+    say(rt, name, &[verdict::number(&c), verdict::record(&c)])
 }
 
+fn translate(
+    rt: &impl Print,
+    name: &str,
+    choice: u32,
+    table: &[Record],
+    out: &mut [u8],
+) -> io::Result<()> {
+    let t = translation::translate(choice, table.as_flattened(), out);
+    let number = verdict::number(&t);
+    let record = verdict::record(&t);
+    if number == 0 {
+        say(rt, name, &[number, record, translation::length(t)])
+    } else {
+        say(rt, name, &[number, record])
+    }
+}
+
+// With room for one verdict.
 fn evaluate(
     rt: &impl Print,
     name: &str,
     choice: u32,
-    t: &[u8],
-    values: &[i32],
-    budget: u32,
-    out: &mut [u8],
-) -> io::Result<()> {
-    print!(rt; "{name}")?;
-    say_evaluation(rt, evaluation::evaluate(choice, t, values, budget, out))?;
-    println!(rt)
-}
-
-// The same on so many records of a small table.
-fn check_small(rt: &impl Print, name: &str, t: [u8; SMALL], records: usize) -> io::Result<()> {
-    let n = bytes(records);
-    check(rt, name, &t[..n])
-}
-
-fn translate_small(
-    rt: &impl Print,
-    name: &str,
-    choice: u32,
-    t: [u8; SMALL],
-    records: usize,
-    out: &mut [u8],
-) -> io::Result<()> {
-    let n = bytes(records);
-    translate(rt, name, choice, &t[..n], out)
-}
-
-// With room for one verdict.
-fn evaluate_small(
-    rt: &impl Print,
-    name: &str,
-    choice: u32,
-    t: [u8; SMALL],
-    records: usize,
+    table: &[Record],
     values: &[i32],
     budget: u32,
 ) -> io::Result<()> {
-    let n = bytes(records);
     let mut out = [0u8; 1];
-    evaluate(rt, name, choice, &t[..n], values, budget, &mut out)
+    let e = evaluation::evaluate(choice, table.as_flattened(), values, budget, &mut out);
+    let number = verdict::number(&e);
+    let record = verdict::record(&e);
+    if number == 0 {
+        let totals = evaluation::totals_of(e);
+        say(
+            rt,
+            name,
+            &[number, record, totals.steps, u32::from(totals.all)],
+        )
+    } else {
+        say(rt, name, &[number, record])
+    }
 }
 
 // ---- the trials
 
 // 1 to 6, by the check.
 fn checks(rt: &impl Print) -> io::Result<()> {
-    let t = headed(1);
-    check_small(rt, "HD alone:", t, 1)?;
-    check_small(rt, "no byte:", t, 0)?;
-    let t = [0u8; SMALL];
-    check_small(rt, "no mark:", t, 1)?;
-    let t = headed(2);
-    check_small(rt, "HD's count wrong:", t, 1)?;
-    let mut t = headed(2);
-    put(&mut t, 1, Mark::Node, 3, 0, 0);
-    check_small(rt, "no such variable:", t, 2)?;
-    let mut t = constant(0);
-    put(&mut t, 0, Mark::Head, 1, 3, 0);
-    put(&mut t, 2, Mark::Constraint, 0, 0, 0);
-    check_small(rt, "constraint not Boolean:", t, 3)?;
-    let mut t = headed(5);
-    put(&mut t, 1, Mark::Slot, 0, 1, 1);
-    put(&mut t, 2, Mark::Node, 5, 0, 0);
-    put(&mut t, 3, Mark::Node, 25, 0, 0);
-    put(&mut t, 4, Mark::Constraint, 0, 1, 0);
-    check_small(rt, "free slot:", t, 5)
+    check(rt, "HD alone:", &[header(1)])?;
+    check(rt, "no byte:", &[])?;
+    check(rt, "no mark:", &[[0; RECORD_SIZE]])?;
+    check(rt, "HD's count wrong:", &[header(2)])?;
+    check(
+        rt,
+        "no such variable:",
+        &[header(2), node(Kind::Variable, 0, 0)],
+    )?;
+    check(
+        rt,
+        "constraint not Boolean:",
+        &[header(3), node(Kind::Constant, 0, 0), constraint(0)],
+    )?;
+    let slot = record(Mark::Slot, 0, 1, 1);
+    check(
+        rt,
+        "free slot:",
+        &[
+            header(5),
+            slot,
+            node(Kind::Slot, 0, 0),
+            node(Kind::Equal, 0, 0),
+            constraint(1),
+        ],
+    )
 }
 
 // 7, 9 and 10, by the calls.
 fn calls(rt: &impl Print) -> io::Result<()> {
-    let values = [2i32; 1];
-    let mut out = [0u8; 11];
-    let t = headed(1);
-    translate_small(rt, "choice 0, translate:", 0, t, 0, &mut out)?;
-    translate_small(rt, "11 bytes for 12:", 1, t, 1, &mut out)?;
-    evaluate_small(rt, "choice 4, evaluate:", 4, t, 0, &values, 0)?;
-    evaluate_small(rt, "a value for no variable:", 1, t, 1, &values, 0)?;
-    let mut t = headed(2);
-    put(&mut t, 1, Mark::Variable, 1, 0, 1);
-    evaluate_small(rt, "2 outside 0..1:", 1, t, 2, &values, 0)
+    let mut out = [0u8; RECORD_SIZE - 1];
+    translate(rt, "choice 0, translate:", 0, &[], &mut out)?;
+    translate(rt, "11 bytes for 12:", 1, &[header(1)], &mut out)?;
+    evaluate(rt, "choice 4, evaluate:", 4, &[], &[2], 0)?;
+    evaluate(rt, "a value for no variable:", 1, &[header(1)], &[2], 0)?;
+    evaluate(
+        rt,
+        "2 outside 0..1:",
+        1,
+        &[header(2), variable(0, 1)],
+        &[2],
+        0,
+    )
 }
 
 // "a constant of 2,000,000,000 translates and 2,000,000,001 gives 8"
 fn limits(rt: &impl Print) -> io::Result<()> {
-    let mut out = [0u8; SMALL];
-    let t = constant(2_000_000_000);
-    translate_small(rt, "2,000,000,000, translate:", 3, t, 2, &mut out)?;
-    let t = constant(2_000_000_001);
-    translate_small(rt, "2,000,000,001, translate:", 3, t, 2, &mut out)
+    let mut out = [0u8; 96];
+    translate(
+        rt,
+        "2,000,000,000, translate:",
+        3,
+        &constant(2_000_000_000),
+        &mut out,
+    )?;
+    translate(
+        rt,
+        "2,000,000,001, translate:",
+        3,
+        &constant(2_000_000_001),
+        &mut out,
+    )
 }
 
 // "budget 6 passes P4 and 5 is refused with 11"; 11 and 8 of evaluation on the smallest tables
 fn budgets(rt: &impl Print) -> io::Result<()> {
-    let values = [0i32; 1];
-    let t = p4();
-    evaluate_small(rt, "P4, budget 6:", 3, t, 8, &values, 6)?;
-    evaluate_small(rt, "P4, budget 5:", 3, t, 8, &values, 5)?;
-    let t = truth();
-    evaluate_small(rt, "true, budget 1:", 1, t, 3, &values[..0], 1)?;
-    evaluate_small(rt, "true, budget 0:", 1, t, 3, &values[..0], 0)?;
-    let t = itself(2_000_000_000);
-    evaluate_small(rt, "2,000,000,000, evaluate:", 1, t, 4, &values[..0], 3)?;
-    let t = itself(2_000_000_001);
-    evaluate_small(rt, "2,000,000,001, evaluate:", 1, t, 4, &values[..0], 3)
-}
-
-// Every record of a table a constraint on node 0.
-fn fill_constraints(t: &mut [u8]) {
-    let records = t.len() / RECORD_SIZE;
-    let mut k = 0;
-    while k < records {
-        t[RECORD_SIZE * k] = b'C';
-        t[RECORD_SIZE * k + 1] = b'N';
-        k += 1;
-    }
+    evaluate(rt, "P4, budget 6:", 3, &p4(), &[0], 6)?;
+    evaluate(rt, "P4, budget 5:", 3, &p4(), &[0], 5)?;
+    evaluate(rt, "true, budget 1:", 1, &truth(), &[], 1)?;
+    evaluate(rt, "true, budget 0:", 1, &truth(), &[], 0)?;
+    evaluate(
+        rt,
+        "2,000,000,000, evaluate:",
+        1,
+        &itself(2_000_000_000),
+        &[],
+        3,
+    )?;
+    evaluate(
+        rt,
+        "2,000,000,001, evaluate:",
+        1,
+        &itself(2_000_000_001),
+        &[],
+        3,
+    )
 }
 
 // A true constant, and constraints on it up to the end of the table.
-fn fill(t: &mut [u8]) {
-    fill_constraints(t);
-    if t.len() >= 24 {
-        put_record(t, 0, b'H', b'D', 1, 5_000, 0);
-        put_record(t, RECORD_SIZE, b'N', b'D', 2, 1, 0);
-    }
+fn filled<const N: usize>() -> [Record; N]
+    requires { 1 < N }
+{
+    let mut table = [constraint(0); N];
+    table[0] = header(5_000);
+    table[1] = node(Kind::TruthValue, 1, 0);
+    table
 }
 
 // "60,000 bytes are read and 60,012 refused with 1"
 fn lengths(rt: &impl Print) -> io::Result<()> {
-    let mut t = [0u8; LONGEST];
-    fill(&mut t);
-    check(rt, "60,000 bytes:", &t)?;
-    let mut t = [0u8; TOO_LONG];
-    fill(&mut t);
-    check(rt, "60,012 bytes:", &t)
+    check(rt, "60,000 bytes:", &filled::<MOST_RECORDS>())?;
+    check(rt, "60,012 bytes:", &filled::<TOO_MANY>())
 }
 
 fn main(rt: HostRuntime) -> io::Result<()> {

@@ -1,29 +1,21 @@
--- What `is_sound` says of a refusal.
-use mathlib.Core.Path.{◌≡◌, refl, sym, ◌∙◌}
-use mathlib.Core.Bool.{Bool, true, false}
+-- What the outcome of a part of the check says of the table's fault.
+use mathlib.Core.Path.{◌≡◌, sym, ap, ◌∙◌}
 use mathlib.Core.Option.{Option, none, some, or_else}
 use Prim.Native.Nat.{ℕ}
-use native.Mathlib.Omega.{arith}
+use Rattle.std.specs.Prelude.{Result, Ok, Err}
 use Rattle.answers.specs.Check.{Refusal, refuse}
 use Rattle.answers.proofs.Faults.{unmapped}
-use Rattle.verdict.specs.Results.{fault_at, is_none}
+use Rattle.verdict.specs.declared.Fault.{Fault}
+use Rattle.verdict.specs.Results.{fault_at, refusal_of}
 
-pub sound_none : (o : Option Refusal) {b : Bool} → b ≡ is_none o → b ≡ true → o ≡ none
-sound_none none e f = refl
-sound_none (some r) e f = cc
+-- no fault where the part passes
+pub sound_none : {c : Result Unit Fault} {u : Unit {0}} {o : Option Refusal} → refusal_of c ≡ o → c ≡ Ok u → o ≡ none
+sound_none e p = sym e ∙ ap refusal_of p
 
-pub unsound_some : (o : Option Refusal) {b : Bool} → b ≡ is_none o → b ≡ false → o ≡ none → ⊥
-unsound_some none e f g = let z : ◌≡◌ {A = ℕ} 0 1 = cc in omega arith
-unsound_some (some r) e f g = let z : ◌≡◌ {A = ℕ} 0 1 = cc in omega arith
-
--- the first refusal decides
-pub unsound_first : (o rest : Option Refusal) {b : Bool} → b ≡ is_none o → b ≡ false → or_else o rest ≡ o
+-- and else the first fault decides
+pub unsound_first : {c : Result Unit Fault} {f : Fault} {o : Option Refusal} (rest : Option Refusal) → refusal_of c ≡ o → c ≡ Err f → refusal_of (Err f) ≡ or_else o rest
 unfolding or_else
-unsound_first none rest e f = cc
-unsound_first (some r) rest e f = refl
-
-pub unsound_decides : {o r : Option Refusal} (rest : Option Refusal) {b : Bool} → r ≡ o → b ≡ is_none r → b ≡ false → r ≡ or_else o rest
-unsound_decides {r = r} rest q e f = rw (← q) (sym (unsound_first r rest e f))
+unsound_first rest e p = rw (sym e ∙ ap refusal_of p)
 
 -- a number at its record, and no fault
 pub refused_at : (p : ℕ) {n : ℕ} {own : Option ℕ} → own ≡ some n → refuse n p ≡ fault_at p own

@@ -1,13 +1,24 @@
-// What the check says of a table.
+// What the check says of a table, and what every refusal tells.
 #![tactic(auto)]
 
 ghost use Rattle.std.specs.Prelude.{◌≡◌};
-ghost use Rattle.verdict.specs.Results.{refusal_of, answer_of, is_none};
+ghost use Rattle.answers.specs.Check.{Refusal};
+ghost use Rattle.verdict.specs.Results.{number_and_record, number_in, record_in};
 
-// Each case but `Sound` and `BadLength` has the record of the fault.
-#[derive(Clone, Copy)]
-pub enum Check {
-    Sound,
+// What a refusal tells: document 01's number, and the record that it is about, 0 where there is none.
+pub trait Refused {
+    ghost told: { Self → Refusal };
+
+    fn number(&self) -> u32
+        ensures { result ≡ (told self.now).number };
+
+    fn record(&self) -> u32
+        ensures { result ≡ (told self.now).at };
+}
+
+// Why a table does not pass. Each case but `BadLength` has the record of the fault.
+#[derive(Clone, Copy, Debug, PartialEq, Eq)]
+pub enum Fault {
     // "length below 12, above 60,000, or no multiple of 12"
     BadLength,
     // "wrong mark or order, an EL missing (at the end: the record count)"
@@ -22,46 +33,48 @@ pub enum Check {
     OpenConstraint(u32),
 }
 
-pub fn is_sound(c: Check) -> bool
-    ensures { result ≡ is_none (refusal_of c) }
-{
-    match c {
-        Check::Sound => true,
-        Check::BadLength => false,
-        Check::Misplaced(_) => false,
-        Check::NotAllowed(_) => false,
-        Check::NamesNothing(_) => false,
-        Check::WrongType(_) => false,
-        Check::OpenConstraint(_) => false,
+impl Refused for Fault {
+    ghost told = { number_and_record };
+
+    fn number(&self) -> u32 {
+        match self {
+            Fault::BadLength => 1,
+            Fault::Misplaced(_) => 2,
+            Fault::NotAllowed(_) => 3,
+            Fault::NamesNothing(_) => 4,
+            Fault::WrongType(_) => 5,
+            Fault::OpenConstraint(_) => 6,
+        }
+    }
+
+    fn record(&self) -> u32 {
+        match *self {
+            Fault::BadLength => 0,
+            Fault::Misplaced(k)
+            | Fault::NotAllowed(k)
+            | Fault::NamesNothing(k)
+            | Fault::WrongType(k)
+            | Fault::OpenConstraint(k) => k,
+        }
     }
 }
 
-// Document 01's number for what the check says.
-pub fn number(c: Check) -> u32
-    ensures { result ≡ (answer_of c).number }
+// Document 01's number for what a call gives: 0 where it is done.
+pub fn number<T, E: Refused>(given: &Result<T, E>) -> u32
+    ensures { result ≡ number_in E.told given.now }
 {
-    match c {
-        Check::Sound => 0,
-        Check::BadLength => 1,
-        Check::Misplaced(_) => 2,
-        Check::NotAllowed(_) => 3,
-        Check::NamesNothing(_) => 4,
-        Check::WrongType(_) => 5,
-        Check::OpenConstraint(_) => 6,
+    match given {
+        Ok(_) => 0,
+        Err(refusal) => refusal.number(),
     }
 }
 
-// The record of the fault that the check found; 0 where there is none.
-pub fn record(c: Check) -> u32
-    ensures { result ≡ (answer_of c).at }
+// The record that a refusal is about; 0 where there is none.
+pub fn record<T, E: Refused>(given: &Result<T, E>) -> u32
+    ensures { result ≡ record_in E.told given.now }
 {
-    match c {
-        Check::Sound => 0,
-        Check::BadLength => 0,
-        Check::Misplaced(k) => k,
-        Check::NotAllowed(k) => k,
-        Check::NamesNothing(k) => k,
-        Check::WrongType(k) => k,
-        Check::OpenConstraint(k) => k,
+    match given {
+        Ok(_) => 0,
+        Err(refusal) => refusal.record(),
     }
 }

@@ -1,18 +1,21 @@
 -- The 32 bits of numbers that are read from 32 bits.
-use mathlib.Core.Path.{◌≡◌}
+use mathlib.Core.Path.{◌≡◌, ap, ◌∙◌}
+use mathlib.Core.List.{List}
 use mathlib.Core.Logic.{⊎_elim}
-use Prim.Native.Nat.{ℕ, suc, ◌+◌, ◌-◌, ◌%◌, ◌≤◌, ◌<◌}
+use Prim.Native.Nat.{ℕ, suc, ◌+◌, ◌-◌, ◌*◌, ◌%◌, ◌≤◌, ◌<◌}
 use native.Mathlib.Omega.{arith}
 use lib.IntN.{ℤ, pos, negsuc, ◌+ℤ◌, pred_ℤ}
 use Rattle.numbers.proofs.Naturals.{lt_or_ge}
 use Rattle.numbers.proofs.Parts.{up, dn, +-parts, pred_parts}
-use Rattle.table.specs.Records.{signed, bits_of}
-use Rattle.table.proofs.Signs.{signed_low, signed_high}
+use mir.Syntax.{w32}
+use mir.Val.{of_z}
+use Rattle.table.specs.Records.{signed, bits_of, record_size, word_at, x_at}
+use Rattle.table.proofs.Signs.{signed_low, signed_high, by_sign}
 
--- Bits are the bits of what they stand for.
-pub bits-signed : (w : ℕ) → w < 0x1_0000_0000 → bits_of (signed w) ≡ w
-unfolding bits_of
-bits-signed w h = ⊎_elim (λ l. rw (signed_low w l)) (λ l. rw (signed_high w l) (omega arith)) (lt_or_ge w 0x8000_0000)
+-- A field that is read as the machine's bits is the field.
+pub signed-of_z : (bs : List ℕ) (p : ℕ) → signed (of_z w32 (x_at bs p)) ≡ x_at bs p
+unfolding x_at
+signed-of_z bs p = by_sign (λ z. signed (of_z w32 z) ≡ z) (word_at bs (record_size * p + 4)) (λ l. signed_low _ l) (λ l. signed_high _ (omega arith) ∙ ap negsuc (omega arith))
 
 module _ (w count : ℕ) (h : w < 0x1_0000_0000) (k : count ≤ 0x8000_0000) where
   abbrev sum : ℕ

@@ -13,7 +13,9 @@ use Rattle.answers.specs.Sections.{listed, constraints_at, rest_at, constraint_c
 use Rattle.answers.specs.Answers.{translated, new_constraints}
 use Rattle.answers.proofs.Listed.{length-listed}
 use Rattle.answers.proofs.Declared as declared
-use Rattle.translator.specs.Cells.{record_of}
+use Rattle.table.specs.Marks.{mark_of}
+use Rattle.table.specs.declared.Mark.TheVariants.{Constraint}
+use Rattle.translator.specs.Cells.{record_of, bytes_of}
 use Rattle.translator.proofs.Cells.{length-record_of}
 use Rattle.numbers.proofs.Lists.{sets-++}
 use Rattle.writing.specs.Constraints.{constraints_over}
@@ -74,8 +76,8 @@ module _ (bs firsts : List ℕ) (from : ℕ) where
   all-put o e f = f ∙ rw e
 
   -- and one more at each turn.
-  pub one-more-put : (o : List ℕ) {out new : List ℕ} (i : ℕ) {x p : ℕ} → out ≡ sets o (record_size * from) (records_of i) → x ≡ nat_abs (x_at bs (constraints_at bs + i)) → p ≡ get_or firsts x 0 → new ≡ sets out (12 * (from + i)) (record_of 67 78 0 p 0) → new ≡ sets o (record_size * from) (records_of (i + 1))
-  unfolding record_size first_letter second_letter
+  pub one-more-put : (o : List ℕ) {out new : List ℕ} (i : ℕ) {x p : ℕ} → out ≡ sets o (record_size * from) (records_of i) → x ≡ nat_abs (x_at bs (constraints_at bs + i)) → p ≡ get_or firsts x 0 → new ≡ sets out (12 * (from + i)) (bytes_of (record { mark = Constraint; kind = 0; x = p; y = 0 })) → new ≡ sets o (record_size * from) (records_of (i + 1))
+  unfolding record_size first_letter second_letter bytes_of mark_of
   one-more-put o {out} {new} i {x} {p} e f g h =
       h ∙ rw (e, g, f)
       (ap (λ k. sets (sets o (12 * from) (records_of i)) k (record_of 67 78 0 (get_or firsts (nat_abs (x_at bs (constraints_at bs + i))) 0) 0)) (omega (arith, length-records_of i))

@@ -8,10 +8,10 @@ use mathlib.Core.Option.{none, some, some-injective}
 use borrow.Author.Tests.{eqb-true}
 use lib.Dec.{eqb}
 use lib.IntN.{ℤ, nat_abs}
-use lib.ListN.{length, length-map}
+use lib.ListN.{length, get_or, length-map}
 use Rattle.language.specs.Syntax.{Declarations}
 use Rattle.language.specs.Tables.{Row}
-use Rattle.table.specs.Records.{kind_at, x_at}
+use Rattle.table.specs.Records.{record_count, kind_at, x_at}
 use Rattle.table.specs.Kinds.{Kind, kinds, kind_of}
 use Rattle.answers.specs.Sections.{nodes_at, node_count, array_records, array_of, declarations, behind_array}
 use Rattle.answers.specs.Check.{check_fault}
@@ -22,7 +22,17 @@ use Rattle.layout.proofs.Checked.{checked}
 use Rattle.layout.proofs.Order.{ordered}
 use Rattle.bounds.proofs.Declared.{behind-inside}
 use Rattle.translator.specs.Words.{looks_up}
-use Rattle.writing.specs.Known.{KnownNode, KnownArrays}
+
+-- A node's record stands in the table, its kind is one of the numbered ones, and an array that it looks up is declared.
+pub record KnownNode (bs : List ℕ) (p : ℕ) : Type 0 where
+  pub inside : p < record_count bs
+  pub known_kind : kind_at bs p < 31
+  pub known_array : looks_up (kind_at bs p) ≡ true → nat_abs (x_at bs p) < length (array_records bs)
+
+-- The arrays are few, and their records stand in the table.
+pub record KnownArrays (bs : List ℕ) : Type 0 where
+  pub few : length (array_records bs) < 65
+  pub inside : (a : ℕ) → a < length (array_records bs) → get_or (array_records bs) a 0 < record_count bs
 
 -- A node that looks an array up names one that is declared.
 names-declared : (Γ : Declarations) (before : List Row) (x : ℤ) (k : ℕ) (q : Kind) → looks_up k ≡ true → kind_of k ≡ some q → FieldFits Γ before q.field_x x → nat_abs x < length Γ.arrays

@@ -1,10 +1,9 @@
 pub mod Bits
-pub mod Codes
 pub mod ConstraintRecords
+pub mod Kept
 pub mod Known
 pub mod NodeRecords
 pub mod NodeWords
-pub mod PlanRows
-pub mod Positions
+pub mod Operands
 pub mod Standing
 pub mod Turns

@@ -11,8 +11,9 @@ use Rattle.rules.specs.Writing.{Translated, write_rule, nothing_yet, rule_after,
 use Rattle.table.specs.Records.{record_size, kind_at, x_at, y_at}
 use Rattle.answers.specs.Sections.{nodes_at, node_count, constraint_count, row_of, rows, constraints, declarations}
 use Rattle.answers.specs.Answers.{translated, new_nodes, new_constraints, new_count}
-use Rattle.translator.specs.Cells.{cells_bytes, fields, place, resolve, rows_from}
-use Rattle.translator.specs.Plans.{rule_rows, plan_at, plan_rows}
+use Rattle.translator.specs.declared.tables.Row as Rules
+use Rattle.translator.specs.Cells.{cells_bytes, fields, number_of, place, resolve}
+use Rattle.translator.specs.Plans.{plan_at, plan_rows}
 use Rattle.translator.specs.Words.{node_numbers, node_words}
 use Rattle.translator.proofs.Cells.{map-++}
 use Rattle.translator.proofs.States.{state, state-zero, state-suc, node-writes, length-state-suc, new-count}
@@ -20,14 +21,14 @@ use Rattle.numbers.proofs.Lists.{sets-++}
 use Rattle.writing.specs.Constraints.{constraints_over}
 use Rattle.writing.proofs.ConstraintRecords.{new_constraints-over}
 use Rattle.writing.proofs.NodeRecords.{new_nodes-cells, length-new_nodes, stored}
-use Rattle.writing.proofs.Positions.{Positions, no-positions, one-position-more}
+use Rattle.writing.proofs.Kept.{Kept, no-positions, one-position-more}
 
 module _ (bs : List ℕ) (ρ : Reading) where
   -- What one more node adds.
   record Adds (n k : ℕ) (words : List ℕ) : Type 0 where
     rows : map fields (state bs ρ (n + 1)).rows ≡ map fields (state bs ρ n).rows ++ map (resolve words (length (state bs ρ n).rows) k) (plan_rows ρ k)
-    firsts : (state bs ρ (n + 1)).firsts ≡ (state bs ρ n).firsts ++ (place words (length (state bs ρ n).rows) (plan_at ρ k).first ∷ [])
-    seconds : (state bs ρ (n + 1)).seconds ≡ (state bs ρ n).seconds ++ (place words (length (state bs ρ n).rows) (plan_at ρ k).second ∷ [])
+    firsts : (state bs ρ (n + 1)).firsts ≡ (state bs ρ n).firsts ++ (place words (length (state bs ρ n).rows) (number_of (plan_at ρ k).first) ∷ [])
+    seconds : (state bs ρ (n + 1)).seconds ≡ (state bs ρ n).seconds ++ (place words (length (state bs ρ n).rows) (number_of (plan_at ρ k).second) ∷ [])
 
   -- It adds its plan's rows, with its words in place.
   node-adds : (n : ℕ) {p : ℕ} → p ≡ nodes_at bs + n → kind_at bs p < 31 → Adds n (kind_at bs p) (node_words (declarations bs) (state bs ρ n).firsts (state bs ρ n).seconds (kind_at bs p) (x_at bs p) (y_at bs p))
@@ -66,8 +67,8 @@ module _ (bs : List ℕ) (ρ : Reading) where
     pub written : out ≡ sets o (record_size * nodes_at bs) (new_nodes bs ρ (state bs ρ n).rows)
     pub sized : length out ≡ length o
     pub next_is : next ≡ length (state bs ρ n).rows
-    pub firsts_held : Positions (state bs ρ n).firsts firsts n
-    pub seconds_held : Positions (state bs ρ n).seconds seconds n
+    pub firsts_held : Kept (state bs ρ n).firsts firsts n
+    pub seconds_held : Kept (state bs ρ n).seconds seconds n
 
   -- Nothing at first,
   pub standing-none : (o : List ℕ) {firsts seconds : List ℕ} → firsts ≡ replicate 5_000 0 → seconds ≡ replicate 5_000 0 → Standing o o firsts seconds 0 0
@@ -89,23 +90,23 @@ module _ (bs : List ℕ) (ρ : Reading) where
     same-words k p = rw (w.firsts_held.held (nat_abs (x_at bs p)), w.seconds_held.held (nat_abs (x_at bs p)), w.firsts_held.held (nat_abs (y_at bs p)), w.seconds_held.held (nat_abs (y_at bs p)))
 
     -- one node more at each turn.
-    pub standing-more : {p kind at from count a b next' : ℕ} {words rows new : List ℕ} → p ≡ nodes_at bs + n → kind ≡ kind_at bs p → kind_at bs p < 31 → n < 5_000
-        → words ≡ node_words (declarations bs) firsts seconds (kind_at bs p) (x_at bs p) (y_at bs p)
-        → from ≡ (plan_at ρ (kind_at bs p)).from → count ≡ (plan_at ρ (kind_at bs p)).count → at ≡ record_size * (nodes_at bs + next)
-        → rows ≡ rule_rows → new ≡ sets out at (cells_bytes (map (resolve words next kind) (rows_from rows from count)))
-        → a ≡ place words next (plan_at ρ (kind_at bs p)).first → b ≡ place words next (plan_at ρ (kind_at bs p)).second → next' ≡ next + count
+    pub standing-more : {p kind base at count a b next' : ℕ} {words new : List ℕ} {rows : List Rules.Row} → p ≡ nodes_at bs + n → kind ≡ kind_at bs p → kind_at bs p < 31 → n < 5_000
+        → words ≡ node_words (declarations bs) firsts seconds (kind_at bs p) (x_at bs p) (y_at bs p) → base ≡ next
+        → count ≡ (plan_at ρ (kind_at bs p)).count → rows ≡ plan_rows ρ (kind_at bs p) → at ≡ record_size * (nodes_at bs + next)
+        → new ≡ sets out at (cells_bytes (map (resolve words base kind) rows))
+        → a ≡ place words base (number_of (plan_at ρ (kind_at bs p)).first) → b ≡ place words base (number_of (plan_at ρ (kind_at bs p)).second) → next' ≡ next + count
         → Standing o new (set firsts n a) (set seconds n b) next' (n + 1)
-    unfolding plan_rows record_size
-    standing-more {p} {kind} {at} {from} {count} {a} {b} {next'} {words} {rows} {new} e ek h few ew ef ec ea er en first second more =
+    unfolding record_size
+    standing-more {p} {kind} {base} {at} {count} {a} {b} {next'} {words} {new} {rows} e ek h few ew eb ec er ea en first second more =
         let env = node_words (declarations bs) (state bs ρ n).firsts (state bs ρ n).seconds (kind_at bs p) (x_at bs p) (y_at bs p) in
         let s : words ≡ env = ew ∙ same-words (kind_at bs p) p in
         let adds = node-adds n e h in
         record {
-          written = en ∙ rw (w.written, new_nodes-cells bs ρ (state bs ρ n).rows, s, w.next_is, ek, er, ef, ec) (stored o (record_size * nodes_at bs) (map fields (state bs ρ n).rows) (map (resolve env (length (state bs ρ n).rows) (kind_at bs p)) (plan_rows ρ (kind_at bs p))) (omega (arith, w.next_is, length-map (state bs ρ n).rows fields)) ∙ ap (λ l. sets o (record_size * nodes_at bs) (cells_bytes l)) (sym adds.rows) ∙ ap (sets o (record_size * nodes_at bs)) (sym (new_nodes-cells bs ρ (state bs ρ (n + 1)).rows)));
-          sized = ap length en ∙ length-sets out at (cells_bytes (map (resolve words next kind) (rows_from rows from count))) ∙ w.sized;
+          written = en ∙ rw (w.written, new_nodes-cells bs ρ (state bs ρ n).rows, s, eb, w.next_is, ek, er) (stored o (record_size * nodes_at bs) (map fields (state bs ρ n).rows) (map (resolve env (length (state bs ρ n).rows) (kind_at bs p)) (plan_rows ρ (kind_at bs p))) (omega (arith, w.next_is, length-map (state bs ρ n).rows fields)) ∙ ap (λ l. sets o (record_size * nodes_at bs) (cells_bytes l)) (sym adds.rows) ∙ ap (sets o (record_size * nodes_at bs)) (sym (new_nodes-cells bs ρ (state bs ρ (n + 1)).rows)));
+          sized = ap length en ∙ length-sets out at (cells_bytes (map (resolve words base kind) rows)) ∙ w.sized;
           next_is = more ∙ rw (w.next_is, ec) (sym (length-state-suc bs ρ n e h));
-          firsts_held = rw (adds.firsts, first, s, w.next_is) (one-position-more w.firsts_held few (place env (length (state bs ρ n).rows) (plan_at ρ (kind_at bs p)).first));
-          seconds_held = rw (adds.seconds, second, s, w.next_is) (one-position-more w.seconds_held few (place env (length (state bs ρ n).rows) (plan_at ρ (kind_at bs p)).second));
+          firsts_held = rw (adds.firsts, first, s, eb, w.next_is) (one-position-more w.firsts_held few (place env (length (state bs ρ n).rows) (number_of (plan_at ρ (kind_at bs p)).first)));
+          seconds_held = rw (adds.seconds, second, s, eb, w.next_is) (one-position-more w.seconds_held few (place env (length (state bs ρ n).rows) (number_of (plan_at ρ (kind_at bs p)).second)));
         }
 
     -- Behind the last node come the constraints.

@@ -1,4 +1,3 @@
-pub mod Codes
 pub mod Constraints
 pub mod Ends
-pub mod Known
+pub mod Operands

@@ -2,67 +2,51 @@
 #![tactic(auto)]
 
 ghost use Rattle.std.specs.Prelude.{◌≡◌, ◌++◌, ◌*◌, ◌≤◌, length};
-ghost use Rattle.std.proofs.Math.Option.{none};
 ghost use Rattle.std.proofs.lemmas.List.Edits.{sets};
 ghost use Rattle.numbers.specs.Limits.{most_bytes};
 ghost use Rattle.table.specs.Records.{record_size};
 ghost use Rattle.answers.specs.Sections.{nodes_at, constraints};
-ghost use Rattle.answers.specs.Check.{check_fault};
 ghost use Rattle.answers.specs.Answers.{translated, new_nodes, new_constraints, new_count};
-ghost use Rattle.sections.specs.Places.{places_of};
 ghost use Rattle.reading.specs.Readings.{meant};
 
 use crate::new_constraints::put_constraints;
-use crate::words::node_words;
-use kinds::entries;
-use layout::array_records;
-use layout::fields::kind_at;
+use crate::nodes::Nodes;
+use crate::positions::Positions;
+use layout::checked_table::CheckedTable;
 use reading::Reading;
-use sections::Places;
 use table::{MOST_RECORDS, RECORD_SIZE};
-use translator::plans::{plan_at, plans};
-use translator::rows::{put_rows, word_of};
-use translator::tables::rows;
+use translator::plans::plan_of;
+use translator::rows::put_rows;
 
 mod new_constraints;
+mod nodes;
+mod positions;
 mod words;
 
 // Writes the new nodes and constraints behind the declarations of the new table.
-pub fn put_nodes_and_constraints(s: &[u8], at: Places, reading: Reading, out: &mut [u8])
-    requires s_value { check_fault s.now ≡ none }
-    requires at_value { at ≡ places_of s.now }
-    requires reading_in_bounds { record_size * new_count s.now (meant reading) ≤ length out.old }
-    requires reading_bound { record_size * new_count s.now (meant reading) ≤ most_bytes }
-    ensures { out.new ≡ sets out.old (record_size * nodes_at s.now) (new_nodes s.now (meant reading) (translated s.now (meant reading)).rows ++ new_constraints s.now (meant reading) (constraints s.now)) }
+pub fn put_nodes_and_constraints(table: &CheckedTable, reading: Reading, out: &mut [u8])
+    requires in_bounds { record_size * new_count table.now.bytes.now (meant reading) ≤ length out.old }
+    requires within_limit { record_size * new_count table.now.bytes.now (meant reading) ≤ most_bytes }
+    ensures { out.new ≡ sets out.old (record_size * nodes_at table.now.bytes.now) (new_nodes table.now.bytes.now (meant reading) (translated table.now.bytes.now (meant reading)).rows ++ new_constraints table.now.bytes.now (meant reading) (constraints table.now.bytes.now)) }
 {
-    let plans = plans(reading);
-    let rows = rows();
-    let kinds = entries();
-    let arrays = array_records(s, at);
-    let mut firsts = [0u32; MOST_RECORDS];
-    let mut seconds = [0u32; MOST_RECORDS];
-    let nodes = at.nodes;
-    let count = at.constraints - nodes;
+    let nodes = Nodes::new(table);
+    let mut positions = Positions {
+        firsts: [0; MOST_RECORDS],
+        seconds: [0; MOST_RECORDS],
+    };
+    let first = table.at.nodes;
     let mut next = 0u32;
-    let mut n = 0;
-    while n < count {
-        let kind = kind_at(s, nodes + n);
-        let plan = plan_at(&plans, kind);
-        let words = node_words(s, nodes + n, &kinds, &arrays, &firsts, &seconds);
+    for n in 0..table.node_count() {
+        let node = nodes.node(n, next, &positions);
+        let plan = plan_of(reading, node.kind);
         put_rows(
             out,
-            RECORD_SIZE * (nodes + next as usize),
-            &rows,
-            plan.from,
-            plan.count,
-            &words,
-            next,
-            kind,
+            RECORD_SIZE * (first + next as usize),
+            plan.rows(),
+            &node,
         );
-        firsts[n] = word_of(&words, next, plan.first);
-        seconds[n] = word_of(&words, next, plan.second);
-        next += plan.count as u32;
-        n += 1;
+        positions.keep(n, node.number(plan.first), node.number(plan.second));
+        next += u32::from(plan.count);
     }
-    put_constraints(s, at, &firsts, nodes + next as usize, out);
+    put_constraints(table, &positions.firsts, first + next as usize, out);
 }

@@ -1,9 +1,7 @@
 -- `barfigol::barfigol_translate` meets its contract.
-use Rattle.barfigol.proofs.Told.{told}
+use borrow.Author.Rules.{rules}
+use Rattle.barfigol.proofs.Told.{told, translated}
 use Rattle.barfigol.proofs.barfigol_translate.Goals as goal
 
-pub shape_of-out : goal.shape_of-out
-shape_of-out c = c.translate.auto.out
-
 pub returns : goal.returns
-returns c = told c.translated.ensures c.translate.ensures
+returns c = told c.into.ensures (told (translated _ c.translate.result c.map.result c.map.ensures.cases (λ x t d. search rules)) c.translate.ensures)

@@ -1,50 +1,65 @@
 -- `bounds::elements` meets its contract.
-use Rattle.bounds.proofs.Declared.{elements-none, elements-one, elements-more}
-use Rattle.intervals.proofs.Spans.{hull-cong}
-use Rattle.layout.proofs.Runs.{within-table}
-use Rattle.answers.specs.Sections.{listed, declarations, element_of, array_of, behind_array}
-use Rattle.rules.specs.Bounds.{element_interval, elements_interval}
-use Rattle.table.specs.Records.{record_count, record_size}
-use native.Mathlib.Numerals.{add-one}
 use native.Mathlib.Omega.{arith}
-use Prim.Native.Nat.{suc, ◌+◌}
-use mathlib.Core.Path.{ap, ◌∙◌, sym}
+use mathlib.Core.Path.{◌∙◌, sym, ap}
+use mathlib.Core.List.{List}
+use Prim.Native.Nat.{ℕ, suc, ◌+◌, ◌-◌}
+use Rattle.rules.specs.Bounds.{Interval, element_interval, elements_interval}
+use Rattle.table.specs.Records.{record_count, record_size}
+use Rattle.answers.specs.Sections.{listed, declarations, element_of, array_of, behind_array}
+use Rattle.bounds.proofs.Declared.{y-names, hull-cong, elements-none, elements-one, elements-more}
 use Rattle.bounds.proofs.elements.Goals as goal
 
-pub name_y-count-requires : goal.name_y-count-requires
+-- the hull of the first n elements of the array of record p
+abbrev hull-of : List ℕ → ℕ → ℕ → Interval
+hull-of bs p n = elements_interval (declarations bs) (listed n (λ j. element_of bs (suc p + j)))
+
+pub record_at-requires : goal.record_at-requires
 unfolding behind_array
-name_y-count-requires c = within-table c.args.s.now (omega (arith, c.requires.p_bound))
+record_at-requires c = omega (arith, c.requires)
 
 pub returns-then-count-eq0 : goal.returns-then-count-eq0
 unfolding array_of
-returns-then-count-eq0 c = elements-none (declarations c.args.s.now) (λ j. element_of c.args.s.now (suc c.args.p + j)) ∙ ap (λ n. elements_interval (declarations c.args.s.now) (listed n (λ j. element_of c.args.s.now (suc c.args.p + j)))) (sym c.if-count-eq0.true ∙ c.name_y-count.ensures)
+returns-then-count-eq0 c = let bs = c.args.table.now.bytes.now in
+    elements-none (declarations bs) (λ j. element_of bs (suc c.args.p + j)) ∙ ap (hull-of bs c.args.p) (sym c.if-count-eq0.true ∙ y-names bs _ c.record_at.ensures c.named-count.ensures.y)
 
 pub overflow_add-p : goal.overflow_add-p
 unfolding behind_array record_count record_size
-overflow_add-p c = omega (arith, c.requires.p_bound, c.well_formed)
+overflow_add-p c = omega (arith, c.requires, c.well_formed)
 
 pub element-all-requires : goal.element-all-requires
 unfolding behind_array
-element-all-requires c = record { passed = c.requires.passed; at_value = c.requires.at_value; p_bound = omega (arith, c.requires.p_bound, c.name_y-count.ensures, c.if-count-eq0.false) }
+element-all-requires c = omega (arith, c.requires, c.if-count-eq0.false, y-names c.args.table.now.bytes.now _ c.record_at.ensures c.named-count.ensures.y)
 
-pub loop-i-init : goal.loop-i-init
-loop-i-init c = (omega arith, omega arith, c.element-all.ensures ∙ ap (λ q. element_interval (declarations c.args.s.now) (element_of c.args.s.now q)) (omega arith) ∙ elements-one (declarations c.args.s.now) (λ j. element_of c.args.s.now (suc c.args.p + j)))
-
-pub overflow_add-p-in-loop-i : goal.overflow_add-p-in-loop-i
+pub overflow_step-q : goal.overflow_step-q
 unfolding behind_array record_count record_size
-overflow_add-p-in-loop-i c = omega (arith, c.requires.p_bound, c.well_formed)
+overflow_step-q c = omega (arith, c.requires, c.well_formed)
 
-pub overflow_add-p-in-loop-i-2 : goal.overflow_add-p-in-loop-i-2
+pub overflow_add-q-end : goal.overflow_add-q-end
 unfolding behind_array record_count record_size
-overflow_add-p-in-loop-i-2 c = omega (arith, c.requires.p_bound, c.well_formed, c.name_y-count.ensures)
+overflow_add-q-end c = omega (arith, c.requires, c.well_formed)
+
+pub overflow_add-q-end-2 : goal.overflow_add-q-end-2
+unfolding behind_array record_count record_size
+overflow_add-q-end-2 c = omega (arith, c.requires, c.well_formed, y-names c.args.table.now.bytes.now _ c.record_at.ensures c.named-count.ensures.y)
+
+pub loop-q-init : goal.loop-q-init
+loop-q-init c = let bs = c.args.table.now.bytes.now in
+    c.element-all.ensures ∙ ap (λ q. element_interval (declarations bs) (element_of bs q)) (omega arith)
+    ∙ elements-one (declarations bs) (λ j. element_of bs (suc c.args.p + j)) ∙ ap (hull-of bs c.args.p) (omega arith)
 
 pub element-requires : goal.element-requires
 unfolding behind_array
-element-requires c = record { passed = c.requires.passed; at_value = c.requires.at_value; p_bound = omega (arith, c.requires.p_bound, c.name_y-count.ensures) }
+element-requires c = omega (arith, c.requires, c.loop-q-test.true, y-names c.args.table.now.bytes.now _ c.record_at.ensures c.named-count.ensures.y)
 
-pub loop-i-preserved : goal.loop-i-preserved
-loop-i-preserved c = (omega arith, omega arith, c.hull-all.ensures ∙ hull-cong c.loop-i.invariant.2 (c.element.ensures ∙ ap (λ q. element_interval (declarations c.args.s.now) (element_of c.args.s.now q)) (omega arith)) ∙ elements-more (declarations c.args.s.now) (λ j. element_of c.args.s.now (suc c.args.p + j)) c.loop-i.i c.loop-i.invariant.0 ∙ ap (λ n. elements_interval (declarations c.args.s.now) (listed n (λ j. element_of c.args.s.now (suc c.args.p + j)))) (sym (add-one c.loop-i.i)))
+pub loop-q-preserved : goal.loop-q-preserved
+loop-q-preserved c = let bs = c.args.table.now.bytes.now in
+    c.hull-all.ensures
+    ∙ hull-cong c.loop-q.invariant (c.element.ensures ∙ ap (λ q. element_interval (declarations bs) (element_of bs q)) (omega (arith, c.loop-q.auto.q)))
+    ∙ elements-more (declarations bs) (λ j. element_of bs (suc c.args.p + j)) (c.loop-q.q - (c.args.p + 1)) (omega (arith, c.loop-q.auto.q))
+    ∙ ap (hull-of bs c.args.p) (omega (arith, c.loop-q.auto.q))
 
 pub returns : goal.returns
 unfolding array_of
-returns c = c.loop-i.invariant.2 ∙ ap (λ n. elements_interval (declarations c.args.s.now) (listed n (λ j. element_of c.args.s.now (suc c.args.p + j)))) (omega (arith, c.name_y-count.ensures, c.loop-i.invariant.1))
+returns c = let bs = c.args.table.now.bytes.now in
+    c.loop-q.invariant
+    ∙ ap (hull-of bs c.args.p) (omega (arith, c.loop-q.auto, c.loop-q-test.false, c.if-count-eq0.false, y-names bs _ c.record_at.ensures c.named-count.ensures.y))

@@ -1,161 +1,114 @@
 -- `bounds::node_ends` meets its contract.
-use mir.Syntax.{w64}
+use native.Mathlib.Omega.{arith}
+use mathlib.Core.Path.{◌≡◌, ◌∙◌, refl, sym, ap}
 use mathlib.Core.List.{List}
-use lib.ListN.{get_or}
-use lib.IntN.{pos, nat_abs}
-use Rattle.bounds.proofs.Nodes.{operand-is, operand_small}
-use Rattle.bounds.proofs.Nodes as Nodes
-use Rattle.intervals.proofs.Spans.{to-cong}
-use Rattle.bounds.specs.Kept.{trees_before}
-use Rattle.intervals.specs.Spans.{span, opposite, repeated, Small}
-use Rattle.layout.proofs.Order.{laid}
-use Rattle.layout.proofs.Runs.{within-table}
-use Rattle.answers.specs.Sections.{declarations, node_count, nodes_at}
-use Rattle.table.specs.Records.{record_count, kind_at, x_at, y_at}
-use Rattle.rules.specs.Bounds.{Interval, only, arith_interval, divide_interval, slot_interval, variable_interval, elements_interval, interval}
+use Prim.Native.Nat.{ℕ, ◌+◌}
+use lib.IntN.{nat_abs}
+use lib.ListN.{length}
+use Rattle.language.specs.Syntax.{plus, minus, times, minimum, maximum, quot, rem, Slot}
 use Rattle.language.specs.Meaning.{array_at, count, slot_at}
 use Rattle.language.specs.Tables.{tree_i}
-use Rattle.language.specs.Syntax.{plus, minus, times, minimum, maximum, quot, rem, Slot}
-use mir.Facts.{to_z-of_z}
-use native.Mathlib.Omega.{arith}
-use Prim.Native.Nat.{ℕ, ◌+◌}
-use mathlib.Core.Path.{◌≡◌, sym, ap, ◌∙◌}
-use Rattle.bounds.proofs.node_ends.Goals.{After-kind_at}
+use Rattle.rules.specs.Bounds.{Interval, only, arith_interval, divide_interval, slot_interval, variable_interval, elements_interval, interval}
+use Rattle.table.specs.Records.{x_at, y_at}
+use Rattle.table.specs.Kinds.{kind_of}
+use Rattle.table.specs.KindNumbers.{number_of}
+use Rattle.table.specs.declared.kind.Kind.{Kind}
+use Rattle.answers.specs.Sections.{declarations, node_count, nodes_at}
+use Rattle.layout.proofs.Tables.{laid-in}
+use Rattle.intervals.specs.Spans.{interval_of, opposite, repeated}
+use Rattle.bounds.specs.Kept.{trees_before, node_ends}
+use Rattle.bounds.proofs.Declared.{kind-field, x-field, x-names, y-names}
+use Rattle.bounds.proofs.Nodes.{NoInteger, made, made-is, made-other, made-none}
+use Rattle.bounds.proofs.node_ends.Goals.{After-try_from}
 use Rattle.bounds.proofs.node_ends.Goals as goal
 
 -- ---- what is known where the kind has been read
 
-module _ (d : After-kind_at) where
+module _ (d : After-try_from) where
   abbrev bytes : List ℕ
-  bytes = d.args.s.now
+  bytes = d.args.table.now.bytes.now
 
   abbrev number : ℕ
-  number = d.args.n
-
-  place : d.args.at.nodes + number ≡ nodes_at bytes + number
-  place = ap (λ k. k + number) (laid bytes d.requires.passed d.requires.at_value).nodes
+  number = length d.args.kept.now
 
   abbrev record-at : ℕ
-  record-at = d.args.at.nodes + number
+  record-at = d.args.table.now.at.nodes + number
 
-  kind_is : {k : ℕ} → d.kind_at.result ≡ k → kind_at bytes record-at ≡ k
-  kind_is e = sym d.kind_at.ensures ∙ e
+  place : record-at ≡ nodes_at bytes + number
+  place = ap (λ k. k + number) (laid-in d.args.table.now).nodes
 
-  x_is : d.name_x-x.result ≡ nat_abs (x_at bytes record-at)
-  x_is = d.name_x-x.ensures
+  x-is : d.named-x.result.0 ≡ nat_abs (x_at bytes record-at)
+  x-is = x-names bytes record-at d.record_at-node.ensures d.named-x.ensures.x
 
-  a-is : span d.operand-a.result ≡ interval (declarations bytes) (tree_i (trees_before bytes number) (nat_abs (x_at bytes record-at)))
-  a-is = operand-is d.requires.kept d.name_x-x.result d.operand-a.ensures x_is
+  a-is : interval_of d.kept_at-a.result ≡ interval (declarations bytes) (tree_i (trees_before bytes number) (nat_abs (x_at bytes record-at)))
+  a-is = d.kept_at-a.ensures ∙ d.requires.kept.same _ ∙ ap (λ k. interval (declarations bytes) (tree_i (trees_before bytes number) k)) x-is
 
-  b-is : span d.operand-b.result ≡ interval (declarations bytes) (tree_i (trees_before bytes number) (nat_abs (y_at bytes record-at)))
-  b-is = operand-is d.requires.kept d.name_y-y.result d.operand-b.ensures d.name_y-y.ensures
+  b-is : interval_of d.kept_at-b.result ≡ interval (declarations bytes) (tree_i (trees_before bytes number) (nat_abs (y_at bytes record-at)))
+  b-is = d.kept_at-b.ensures ∙ d.requires.kept.same _
+      ∙ ap (λ k. interval (declarations bytes) (tree_i (trees_before bytes number) k)) (y-names bytes record-at d.record_at-node.ensures d.named-x.ensures.y)
 
-  small-a : Small d.operand-a.result
-  small-a = operand_small d.requires.kept d.name_x-x.result d.operand-a.ensures
-
-  small_b : Small d.operand-b.result
-  small_b = operand_small d.requires.kept d.name_y-y.result d.operand-b.ensures
-
-  hull-low : get_or d.args.hull_lows.now d.name_x-x.result (pos 0) ≡ (elements_interval (declarations bytes) (array_at (declarations bytes) (nat_abs (x_at bytes record-at))).elements).low
-  hull-low = d.requires.hulls.low _ ∙ ap (λ a. (elements_interval (declarations bytes) (array_at (declarations bytes) a).elements).low) x_is
-
-  hull-high : get_or d.args.hull_highs.now d.name_x-x.result (pos 0) ≡ (elements_interval (declarations bytes) (array_at (declarations bytes) (nat_abs (x_at bytes record-at))).elements).high
-  hull-high = d.requires.hulls.high _ ∙ ap (λ a. (elements_interval (declarations bytes) (array_at (declarations bytes) a).elements).high) x_is
+  by-kind : {read k : Kind} → read ≡ k → number_of read ≡ d.record_at-node.result.kind → made bytes number place k ≡ node_ends bytes number
+  by-kind {k = k} e f = made-is bytes number place k (ap number_of (sym e) ∙ f ∙ kind-field bytes record-at d.record_at-node.ensures)
 
 both-cong : {A B C : Type 0} (f : A → B → C) {a b : A} {c d : B} → a ≡ b → c ≡ d → f a c ≡ f b d
 both-cong f p q = cc
 
-pub overflow_add-p : goal.overflow_add-p
-unfolding node_count record_count
-overflow_add-p c = let l = laid c.args.s.now c.requires.passed c.requires.at_value in omega (arith, l, l.order, c.requires.n_bound)
-
-pub name_x-x-requires : goal.name_x-x-requires
+pub overflow_add-table : goal.overflow_add-table
 unfolding node_count
-name_x-x-requires c = let l = laid c.args.s.now c.requires.passed c.requires.at_value in within-table c.args.s.now (omega (arith, l, l.order, c.requires.n_bound))
+overflow_add-table c = let l = laid-in c.args.table.now in omega (arith, l, l.order, c.requires.inside)
 
-pub name_y-y-requires : goal.name_y-y-requires
+pub record_at-node-requires : goal.record_at-node-requires
 unfolding node_count
-name_y-y-requires c = let l = laid c.args.s.now c.requires.passed c.requires.at_value in within-table c.args.s.now (omega (arith, l, l.order, c.requires.n_bound))
+record_at-node-requires c = let l = laid-in c.args.table.now in omega (arith, l, l.order, c.requires.inside)
 
-pub kind_at-requires : goal.kind_at-requires
-unfolding node_count
-kind_at-requires c = let l = laid c.args.s.now c.requires.passed c.requires.at_value in within-table c.args.s.now (omega (arith, l, l.order, c.requires.n_bound))
+pub returns-in-Constant : goal.returns-in-Constant
+returns-in-Constant c = let d = (goal.at.returns-in-Constant c).After-try_from in c.into-in-Constant.ensures ∙ c.only.ensures ∙ ap only (x-field (bytes d) (record-at d) d.record_at-node.ensures) ∙ by-kind d c.in-Constant.is c.in-Ok.ensures
 
-pub x_at-requires : goal.x_at-requires
-unfolding node_count
-x_at-requires c = let l = laid c.args.s.now c.requires.passed c.requires.at_value in within-table c.args.s.now (omega (arith, l, l.order, c.requires.n_bound))
+pub returns-in-Variable : goal.returns-in-Variable
+returns-in-Variable c = let d = (goal.at.returns-in-Variable c).After-try_from in c.into-in-Variable.ensures ∙ c.domain.ensures ∙ ap (variable_interval (declarations (bytes d))) (x-is d) ∙ by-kind d c.in-Variable.is c.in-Ok.ensures
 
-pub domain-requires : goal.domain-requires
-domain-requires c = record { passed = c.requires.passed; at_value = c.requires.at_value }
+pub returns-in-Slot : goal.returns-in-Slot
+returns-in-Slot c = let d = (goal.at.returns-in-Slot c).After-try_from in c.into-in-Slot.ensures ∙ c.values.ensures ∙ ap slot_interval (c.slot.ensures ∙ ap (slot_at (declarations (bytes d))) (x-is d)) ∙ by-kind d c.in-Slot.is c.in-Ok.ensures
 
-pub slot_ends-requires : goal.slot_ends-requires
-slot_ends-requires c = record { passed = c.requires.passed; at_value = c.requires.at_value }
+pub returns-in-Add : goal.returns-in-Add
+returns-in-Add c = let d = (goal.at.returns-in-Add c).After-try_from in c.add.ensures ∙ both-cong (arith_interval plus) (a-is d) (b-is d) ∙ by-kind d c.in-Add.is c.in-Ok.ensures
 
-pub plus-requires : goal.plus-requires
-plus-requires c = let d = (goal.at.plus-requires c).After-kind_at in record { small = small-a d; small_2 = small_b d }
+pub returns-in-Subtract : goal.returns-in-Subtract
+returns-in-Subtract c = let d = (goal.at.returns-in-Subtract c).After-try_from in c.sub.ensures ∙ both-cong (arith_interval minus) (a-is d) (b-is d) ∙ by-kind d c.in-Subtract.is c.in-Ok.ensures
 
-pub minus-requires : goal.minus-requires
-minus-requires c = let d = (goal.at.minus-requires c).After-kind_at in record { small = small-a d; small_2 = small_b d }
+pub returns-in-Multiply : goal.returns-in-Multiply
+returns-in-Multiply c = let d = (goal.at.returns-in-Multiply c).After-try_from in c.mul.ensures ∙ both-cong (arith_interval times) (a-is d) (b-is d) ∙ by-kind d c.in-Multiply.is c.in-Ok.ensures
 
-pub times-requires : goal.times-requires
-times-requires c = let d = (goal.at.times-requires c).After-kind_at in record { small = small-a d; small_2 = small_b d }
+pub returns-in-Div : goal.returns-in-Div
+returns-in-Div c = let d = (goal.at.returns-in-Div c).After-try_from in c.quotients.ensures _ ∙ both-cong (divide_interval quot) (a-is d) (b-is d) ∙ by-kind d c.in-Div.is c.in-Ok.ensures
 
-pub quotients-requires : goal.quotients-requires
-quotients-requires c = small-a (goal.at.quotients-requires c).After-kind_at
+pub returns-in-Mod : goal.returns-in-Mod
+returns-in-Mod c = let d = (goal.at.returns-in-Mod c).After-try_from in c.remainders.ensures _ ∙ both-cong (divide_interval rem) (a-is d) (b-is d) ∙ by-kind d c.in-Mod.is c.in-Ok.ensures
 
-pub remainders-requires : goal.remainders-requires
-remainders-requires c = small_b (goal.at.remainders-requires c).After-kind_at
+pub returns-in-Negate : goal.returns-in-Negate
+returns-in-Negate c = let d = (goal.at.returns-in-Negate c).After-try_from in c.neg.ensures ∙ ap opposite (a-is d) ∙ by-kind d c.in-Negate.is c.in-Ok.ensures
 
-pub negated-requires : goal.negated-requires
-negated-requires c = small-a (goal.at.negated-requires c).After-kind_at
+pub returns-in-Min : goal.returns-in-Min
+returns-in-Min c = let d = (goal.at.returns-in-Min c).After-try_from in c.into-in-Min.ensures ∙ c.min.ensures ∙ both-cong (arith_interval minimum) (a-is d) (b-is d) ∙ by-kind d c.in-Min.is c.in-Ok.ensures
 
-pub slot_ends-requires-in-17 : goal.slot_ends-requires-in-17
-slot_ends-requires-in-17 c = record { passed = c.requires.passed; at_value = c.requires.at_value }
+pub returns-in-Max : goal.returns-in-Max
+returns-in-Max c = let d = (goal.at.returns-in-Max c).After-try_from in c.into-in-Max.ensures ∙ c.max.ensures ∙ both-cong (arith_interval maximum) (a-is d) (b-is d) ∙ by-kind d c.in-Max.is c.in-Ok.ensures
 
-pub summed-requires : goal.summed-requires
-summed-requires c = record { narrow = c.slot_ends-in-17.ensures.narrow; small = small_b (goal.at.summed-requires c).After-kind_at }
+pub returns-in-BoolToInt : goal.returns-in-BoolToInt
+returns-in-BoolToInt c = let d = (goal.at.returns-in-BoolToInt c).After-try_from in c.into-in-BoolToInt.ensures ∙ by-kind d c.in-BoolToInt.is c.in-Ok.ensures
 
-pub returns-in-1 : goal.returns-in-1
-returns-in-1 c = let d = (goal.at.returns-in-1 c).After-kind_at in c.only.ensures ∙ ap only (to_z-of_z {w = w64} (record { sfits = c.x_at.type_inv }) ∙ c.x_at.ensures) ∙ Nodes.constant-ends (bytes d) (number d) (place d) (kind_is d c.in-1.is)
+pub returns-in-Lookup : goal.returns-in-Lookup
+returns-in-Lookup c = let d = (goal.at.returns-in-Lookup c).After-try_from in c.into-in-Lookup.ensures ∙ c.kept_at.ensures ∙ d.requires.hulls.same _ ∙ ap (λ a. elements_interval (declarations (bytes d)) (array_at (declarations (bytes d)) a).elements) (x-is d) ∙ by-kind d c.in-Lookup.is c.in-Ok.ensures
 
-pub returns-in-3 : goal.returns-in-3
-returns-in-3 c = let d = (goal.at.returns-in-3 c).After-kind_at in c.domain.ensures ∙ ap (variable_interval (declarations (bytes d))) (x_is d) ∙ Nodes.variable-ends (bytes d) (number d) (place d) (kind_is d c.in-3.is)
+pub returns-in-Sum : goal.returns-in-Sum
+returns-in-Sum c = let d = (goal.at.returns-in-Sum c).After-try_from in c.sum.ensures ∙ both-cong (λ (s : Slot) (i : Interval). repeated (count s) i) (c.slot-in-Sum.ensures ∙ ap (slot_at (declarations (bytes d))) (x-is d)) (b-is d) ∙ by-kind d c.in-Sum.is c.in-Ok.ensures
 
-pub returns-in-5 : goal.returns-in-5
-returns-in-5 c = let d = (goal.at.returns-in-5 c).After-kind_at in c.slot_values.ensures ∙ ap slot_interval (c.slot_ends.ensures.result_value ∙ ap (slot_at (declarations (bytes d))) (x_is d)) ∙ Nodes.slot-ends (bytes d) (number d) (place d) (kind_is d c.in-5.is)
-
-pub returns-in-6 : goal.returns-in-6
-returns-in-6 c = let d = (goal.at.returns-in-6 c).After-kind_at in c.plus.ensures ∙ both-cong (arith_interval plus) (a-is d) (b-is d) ∙ Nodes.plus-ends (bytes d) (number d) (place d) (kind_is d c.in-6.is)
-
-pub returns-in-7 : goal.returns-in-7
-returns-in-7 c = let d = (goal.at.returns-in-7 c).After-kind_at in c.minus.ensures ∙ both-cong (arith_interval minus) (a-is d) (b-is d) ∙ Nodes.minus-ends (bytes d) (number d) (place d) (kind_is d c.in-7.is)
-
-pub returns-in-8 : goal.returns-in-8
-returns-in-8 c = let d = (goal.at.returns-in-8 c).After-kind_at in c.times.ensures ∙ both-cong (arith_interval times) (a-is d) (b-is d) ∙ Nodes.times-ends (bytes d) (number d) (place d) (kind_is d c.in-8.is)
-
-pub returns-in-9 : goal.returns-in-9
-returns-in-9 c = let d = (goal.at.returns-in-9 c).After-kind_at in c.quotients.ensures ∙ both-cong (divide_interval quot) (a-is d) (b-is d) ∙ Nodes.quotient-ends (bytes d) (number d) (place d) (kind_is d c.in-9.is)
-
-pub returns-in-10 : goal.returns-in-10
-returns-in-10 c = let d = (goal.at.returns-in-10 c).After-kind_at in c.remainders.ensures ∙ both-cong (divide_interval rem) (a-is d) (b-is d) ∙ Nodes.remainder-ends (bytes d) (number d) (place d) (kind_is d c.in-10.is)
-
-pub returns-in-11 : goal.returns-in-11
-returns-in-11 c = let d = (goal.at.returns-in-11 c).After-kind_at in c.negated.ensures ∙ ap opposite (a-is d) ∙ Nodes.negate-ends (bytes d) (number d) (place d) (kind_is d c.in-11.is)
-
-pub returns-in-12 : goal.returns-in-12
-returns-in-12 c = let d = (goal.at.returns-in-12 c).After-kind_at in c.lesser.ensures ∙ both-cong (arith_interval minimum) (a-is d) (b-is d) ∙ Nodes.minimum-ends (bytes d) (number d) (place d) (kind_is d c.in-12.is)
-
-pub returns-in-13 : goal.returns-in-13
-returns-in-13 c = let d = (goal.at.returns-in-13 c).After-kind_at in c.greater.ensures ∙ both-cong (arith_interval maximum) (a-is d) (b-is d) ∙ Nodes.maximum-ends (bytes d) (number d) (place d) (kind_is d c.in-13.is)
-
-pub returns-in-14 : goal.returns-in-14
-returns-in-14 c = let d = (goal.at.returns-in-14 c).After-kind_at in Nodes.bool_to_int-ends (bytes d) (number d) (place d) (kind_is d c.in-14.is)
-
-pub returns-in-15 : goal.returns-in-15
-returns-in-15 c = let d = (goal.at.returns-in-15 c).After-kind_at in c.operand.ensures ∙ to-cong (hull-low d) (hull-high d) ∙ Nodes.lookup-ends (bytes d) (number d) (place d) (kind_is d c.in-15.is)
-
-pub returns-in-17 : goal.returns-in-17
-returns-in-17 c = let d = (goal.at.returns-in-17 c).After-kind_at in c.summed.ensures ∙ both-cong (λ (s : Slot) (i : Interval). repeated (count s) i) (c.slot_ends-in-17.ensures.result_value ∙ ap (slot_at (declarations (bytes d))) (x_is d)) (b-is d) ∙ Nodes.sum-ends (bytes d) (number d) (place d) (kind_is d c.in-17.is)
+pub returns-in_default-kind : goal.returns-in_default-kind
+returns-in_default-kind c = let d = (goal.at.returns-in_default-kind c).After-try_from in
+    let o = c.in_default-kind in
+    let none : NoInteger _ = record { not-Constant = o.not-Constant; not-Variable = o.not-Variable; not-Slot = o.not-Slot; not-Add = o.not-Add; not-Subtract = o.not-Subtract; not-Multiply = o.not-Multiply; not-Div = o.not-Div; not-Mod = o.not-Mod; not-Negate = o.not-Negate; not-Min = o.not-Min; not-Max = o.not-Max; not-BoolToInt = o.not-BoolToInt; not-Lookup = o.not-Lookup; not-Sum = o.not-Sum } in
+    c.into-in_default-kind.ensures ∙ made-other (bytes d) (number d) (place d) _ none ∙ by-kind d refl c.in-Ok.ensures
 
 pub returns-in_default : goal.returns-in_default
-returns-in_default c = let d = (goal.at.returns-in_default c).After-kind_at in Nodes.other-ends (bytes d) (number d) (place d) _ c.in_default.in_default-own.rest (sym c.kind_at.ensures)
+returns-in_default c = let d = (goal.at.returns-in_default c).After-try_from in
+    c.into.ensures ∙ made-none (bytes d) (number d) (place d) (ap kind_of (sym (kind-field (bytes d) (record-at d) d.record_at-node.ensures)) ∙ c.in_default.ensures)

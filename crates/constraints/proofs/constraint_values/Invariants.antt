@@ -1,11 +1,7 @@
 -- `constraints::constraint_values` meets its contract.
-use Prim.Native.Nat.{◌-◌, ◌≤◌}
 use Rattle.reading.specs.Readings.{meant}
 use Rattle.constraints.proofs.Walking.{Walked-so-far}
 use Rattle.constraints.proofs.constraint_values.Given as goal
 
 abbrev pub invariant-loop-i : goal.invariant-loop-i
-invariant-loop-i l = Walked-so-far l.s (meant l.reading) l.assignment l.bytes l.all l.i × (l.i ≤ l.count)
-
-abbrev pub decreases-loop-i : goal.decreases-loop-i
-decreases-loop-i l = l.count - l.i
+invariant-loop-i l = Walked-so-far l.table.checked.bytes.now (meant l.reading) l.assignment l.bytes l.all l.i

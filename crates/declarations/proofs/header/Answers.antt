@@ -1,33 +1,42 @@
 -- `declarations::header` meets its contract.
-use mathlib.Core.Path.{sym, ◌∙◌, ap}
+use mathlib.Core.Path.{◌≡◌, sym, ◌∙◌}
+use mathlib.Core.Option.{Option, some, or_else}
+use mathlib.Core.Bool.{Bool, true, false, ◌&&◌}
+use Prim.Native.Nat.{ℕ}
+use lib.Dec.{eqb}
+use lib.IntN.{pos}
+use Rattle.std.specs.Prelude.{List}
+use Rattle.numbers.specs.Whole.{eq_z}
+use Rattle.table.specs.Records.{HD, record_count, marked}
 use Rattle.table.specs.Marks.{mark_of}
-use Rattle.answers.proofs.Faults.{unless-true, unless-false}
+use Rattle.table.specs.Parts.{parts_of}
+use Rattle.table.specs.declared.Record.{Record}
+use Rattle.answers.specs.Check.{unless, is_zero, first_fault, header_fault}
 use Rattle.verdict.specs.Results.{fault_at}
-use Rattle.declarations.proofs.Tests.{only_one, header-test, header-misplaced}
 use Rattle.declarations.proofs.header.Goals as goal
 
+-- the whole section is one record
+only_one : (own : Option ℕ) {o : Option ℕ} → own ≡ o → fault_at 0 o ≡ first_fault (λ i. own) 0 1
+unfolding first_fault or_else
+only_one own e = rw (← e)
+
+abbrev test : Record → ℕ → Bool
+test r n = eqb r.kind 1 && eqb r.aux 0 && eq_z r.x (pos n) && is_zero r.y
+
+tested : (bs : List ℕ) {r : Record} {n : ℕ} {b : Bool} → marked bs HD 0 ≡ true → r ≡ parts_of bs 0 → n ≡ record_count bs → test r n ≡ b → header_fault bs 0 ≡ unless 3 b
+unfolding header_fault or_else unless
+tested bs {r} {n} {b} m er en e = let f : test (parts_of bs 0) (record_count bs) ≡ b = rw (er, en) at e in rw (m, f)
+
 pub returns-then-not-marked : goal.returns-then-not-marked
-unfolding mark_of
-returns-then-not-marked c = sym (only_one _ ∙ ap (fault_at 0) (header-misplaced _ (sym c.marked.ensures ∙ c.if-not-marked.true)))
+unfolding mark_of header_fault unless or_else
+returns-then-not-marked c = only_one _ {o = some 2} (rw (sym c.marked.ensures ∙ c.if-not-marked.true))
 
-pub returns-then-kind-aux : goal.returns-then-kind-aux
-unfolding mark_of
-returns-then-kind-aux c = sym
-    (only_one _
-    ∙ ap (fault_at 0)
-    (header-test _ c.record_count-count.ensures c.kind_at-kind.ensures
-    c.aux_at-aux.ensures c.x_bits-x.ensures c.y_bits-y.ensures
-    c.requires.table_bound
-    (sym c.marked.ensures ∙ c.if-not-marked.false)
-    ∙ unless-true 3 c.if-kind-aux.true))
+pub returns-then-header_allowed : goal.returns-then-header_allowed
+unfolding mark_of unless
+returns-then-header_allowed c =
+    only_one _ (tested _ {b = true} (sym c.marked.ensures ∙ c.if-not-marked.false) c.record_at.ensures c.record_count.ensures (sym c.header_allowed.ensures ∙ c.if-header_allowed.true))
 
-pub returns-else-kind-aux : goal.returns-else-kind-aux
-unfolding mark_of
-returns-else-kind-aux c = sym
-    (only_one _
-    ∙ ap (fault_at 0)
-    (header-test _ c.record_count-count.ensures c.kind_at-kind.ensures
-    c.aux_at-aux.ensures c.x_bits-x.ensures c.y_bits-y.ensures
-    c.requires.table_bound
-    (sym c.marked.ensures ∙ c.if-not-marked.false)
-    ∙ unless-false 3 c.if-kind-aux.false))
+pub returns-else-header_allowed : goal.returns-else-header_allowed
+unfolding mark_of unless
+returns-else-header_allowed c =
+    only_one _ (tested _ {b = false} (sym c.marked.ensures ∙ c.if-not-marked.false) c.record_at.ensures c.record_count.ensures (sym c.header_allowed.ensures ∙ c.if-header_allowed.false))

@@ -7,26 +7,12 @@ use Rattle.declarations.proofs.slots.Goals as goal
 pub loop-i-init : goal.loop-i-init
 loop-i-init c = (omega arith, first-zero _ _)
 
-pub overflow_add-p : goal.overflow_add-p
-overflow_add-p c = omega (arith, c.requires.within c.loop-i.i (omega arith), c.requires.few)
-
-pub slot_allowed-requires : goal.slot_allowed-requires
-slot_allowed-requires c = c.requires.within c.loop-i.i (omega arith)
-
-pub overflow_cast-result : goal.overflow_cast-result
-overflow_cast-result c = omega (arith, c.requires.within c.loop-i.i (omega arith), c.requires.few)
-
 pub returns-then-not-slot_allowed : goal.returns-then-not-slot_allowed
-returns-then-not-slot_allowed c = sym
-    (first-at _ _ c.loop-i.i c.loop-i.invariant.1
-    (sym c.slot_allowed.ensures ∙ unless-false 3 c.if-not-slot_allowed.true) (omega arith))
+returns-then-not-slot_allowed c =
+    sym (first-at _ _ c.loop-i.i c.loop-i.invariant.1 (sym c.slot_allowed.ensures ∙ unless-false 3 c.if-not-slot_allowed.true) (omega arith))
 
 pub loop-i-preserved : goal.loop-i-preserved
-loop-i-preserved c = (
-  omega arith,
-  first_more _ _ c.loop-i.i c.loop-i.invariant.1
-      (sym c.slot_allowed.ensures ∙ unless-true 3 c.if-not-slot_allowed.false),
-)
+loop-i-preserved c = (omega arith, first_more _ _ c.loop-i.i c.loop-i.invariant.1 (sym c.slot_allowed.ensures ∙ unless-true 3 c.if-not-slot_allowed.false))
 
 pub returns : goal.returns
 returns c = first_done _ _ c.loop-i.invariant.1 (omega arith)

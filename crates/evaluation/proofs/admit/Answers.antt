@@ -1,18 +1,19 @@
 -- `evaluation::admit` meets its contract.
-use mathlib.Core.Path.{sym, ap, ◌∙◌}
-use Rattle.layout.proofs.Checked.{checked}
-use Rattle.assignment.specs.Results.{refusal_of}
-use Rattle.evaluation.proofs.Outcomes.{admits_unassigned}
+use native.Mathlib.Omega.{arith}
+use Rattle.std.proofs.lemmas.Result.{err_from_is_err_and}
+use Rattle.evaluation.proofs.Outcomes.{admits_unassigned, admits_no_room, admits_over, admits_steps}
 use Rattle.evaluation.proofs.admit.Goals as goal
 
-pub check_assignment-requires : goal.check_assignment-requires
-check_assignment-requires c = record { passed = checked _ c.requires.table_value; at_value = c.requires.at_value }
+pub returns-in_err-check_assignment : goal.returns-in_err-check_assignment
+returns-in_err-check_assignment c =
+    let p = err_from_is_err_and c.from_residual.result c.from_residual.ensures.1 in
+    rw (p.1, p.2) (admits_unassigned _ _ _ _ _ c.in_err-check_assignment.ensures)
 
-pub admit_assigned-requires : goal.admit_assigned-requires
-admit_assigned-requires c = record { table_value = c.requires.table_value; at_value = c.requires.at_value; assignment_value = sym c.check_assignment.ensures ∙ ap refusal_of c.in-Fits.is }
+pub returns-then-room-constraint_count : goal.returns-then-room-constraint_count
+returns-then-room-constraint_count c = admits_no_room _ _ _ _ c.in_ok-check_assignment.ensures c.constraint_count.ensures (omega arith)
 
-pub returns-in-Fits : goal.returns-in-Fits
-returns-in-Fits c = c.admit_assigned.ensures
+pub returns-then-steps-budget : goal.returns-then-steps-budget
+returns-then-steps-budget c = admits_steps _ _ _ _ c.in_ok-check_assignment.ensures c.constraint_count.ensures (omega arith) c.total_steps-steps.ensures (omega (arith, c.ranges)) (omega arith)
 
-pub returns-in-Refused : goal.returns-in-Refused
-returns-in-Refused c = admits_unassigned _ _ _ _ _ (sym (ap refusal_of c.in-Refused.is) ∙ c.check_assignment.ensures)
+pub returns-else-steps-budget : goal.returns-else-steps-budget
+returns-else-steps-budget c = admits_over _ _ _ _ c.in_ok-check_assignment.ensures c.constraint_count.ensures (omega arith) c.total_steps-steps.ensures (omega (arith, c.ranges)) (omega arith)

@@ -1,11 +1,11 @@
 -- `preparation::fill` meets its contract.
-use native.Mathlib.Omega.{arith}
-use Rattle.preparation.proofs.Stored.{stored-padded}
-use Rattle.numbers.proofs.Lists.{filled_none}
+use mathlib.Core.Path.{ap₂, ap, ◌∙◌}
+use mathlib.Core.List.{◌++◌}
+use lib.ListN.{length, drop}
+use Rattle.std.proofs.lemmas.List.{drop-replicate}
+use Rattle.preparation.specs.Prepared.{padded}
 use Rattle.preparation.proofs.fill.Goals as goal
 
-pub loop-i-init : goal.loop-i-init
-loop-i-init c = (filled_none _ _ _ c.requires.t_value, omega arith)
-
 pub returns : goal.returns
-returns c = stored-padded _ c.loop-i.invariant.0 (omega arith) c.requires.table_len_bound
+unfolding padded
+returns c = ap₂ ◌++◌ c.copy_from_slice.ensures.after (ap (drop (length c.args.table.now)) c.requires.t_value ∙ drop-replicate _ _ 0)

@@ -6,13 +6,13 @@ use Rattle.sections.proofs.Walks.{run_starts, run_goes_on, run_ends}
 use Rattle.sections.proofs.run_end.Goals as goal
 
 pub loop-p-init : goal.loop-p-init
-loop-p-init c = run_starts
+loop-p-init c = record { run = run_starts; within = omega arith }
 
 pub returns-then-not-marked : goal.returns-then-not-marked
-returns-then-not-marked c = run_ends c.loop-p.invariant (sym c.marked.ensures ∙ c.if-not-marked.true)
+returns-then-not-marked c = run_ends c.loop-p.invariant.run (sym c.marked.ensures ∙ c.if-not-marked.true)
 
 pub loop-p-preserved : goal.loop-p-preserved
-loop-p-preserved c = run_goes_on c.loop-p.invariant (omega arith) (sym c.marked.ensures ∙ c.if-not-marked.false)
+loop-p-preserved c = record { run = run_goes_on c.loop-p.invariant.run (omega arith) (sym c.marked.ensures ∙ c.if-not-marked.false); within = omega arith }
 
 pub returns : goal.returns
-returns c = run_ends c.loop-p.invariant (unmarked_beyond _ c.requires _ c.loop-p.p (omega arith))
+returns c = omega (arith, c.max.ensures, c.loop-p.invariant.within) ∙ run_ends c.loop-p.invariant.run (unmarked_beyond _ c.requires _ c.loop-p.p (omega arith))

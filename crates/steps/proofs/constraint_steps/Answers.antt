@@ -1,45 +1,43 @@
 -- `steps::constraint_steps` meets its contract.
-use mathlib.Core.Path.{ap, ◌∙◌}
-use lib.ListN.{get_or}
+use mathlib.Core.Path.{◌≡◌, ◌∙◌}
+use Prim.Native.Nat.{◌+◌, ◌-◌, ◌≤◌}
 use native.Mathlib.Omega.{arith}
-use Rattle.answers.specs.Sections.{constraint_count}
-use Rattle.answers.specs.Answers as Answers
-use Rattle.table.specs.Records.{record_count}
-use Rattle.layout.proofs.Checked.{checked}
-use Rattle.layout.proofs.Order.{laid}
-use Rattle.layout.proofs.Runs.{within-table}
+use Rattle.answers.specs.Sections.{constraints_at, constraint_count}
+use Rattle.layout.proofs.Tables.{laid-in}
+use Rattle.steps.specs.Capped.{past_budgets}
 use Rattle.steps.proofs.Caps.{capped-≤}
-use Rattle.steps.proofs.Constraints.{constraints_below, total-none, total-more, total-all}
+use Rattle.steps.proofs.Constraints.{total-none, total-more, total-all}
 use Rattle.steps.proofs.constraint_steps.Goals as goal
 
-pub overflow_sub-count : goal.overflow_sub-count
-overflow_sub-count c = let l = laid c.args.s.now (checked c.args.s.now c.requires.s_value) c.requires.at_value in omega (arith, l, l.order)
+pub loop-p-init : goal.loop-p-init
+loop-p-init c =
+    let l = laid-in c.args.table.now in
+    let none_yet : c.args.table.now.at.constraints - constraints_at c.args.table.now.bytes.now ≡ 0 = omega (arith, l) in
+    rw none_yet (total-none c.args.table.now.bytes.now)
 
-pub loop-i-init : goal.loop-i-init
-loop-i-init c = (total-none c.args.s.now, omega arith)
-
-pub overflow_add-first : goal.overflow_add-first
-unfolding record_count
-overflow_add-first c = let l = laid c.args.s.now (checked c.args.s.now c.requires.s_value) c.requires.at_value in omega (arith, l, l.order)
-
-pub name_x-requires : goal.name_x-requires
-name_x-requires c = let l = laid c.args.s.now (checked c.args.s.now c.requires.s_value) c.requires.at_value in within-table c.args.s.now (omega (arith, l, l.order))
-
-pub kept-requires : goal.kept-requires
-kept-requires c = c.requires.kept.sized
+pub record_at-requires : goal.record_at-requires
+record_at-requires c = let l = laid-in c.args.table.now in omega (arith, l, l.order)
 
 pub overflow_add-total : goal.overflow_add-total
-overflow_add-total c = omega (arith, c.kept.ensures, c.requires.kept.small c.name_x.result, c.loop-i.invariant.0, capped-≤ (Answers.costs c.args.s.now (constraints_below c.args.s.now c.loop-i.i)))
+overflow_add-total c =
+    let total : c.loop-p.total ≤ past_budgets = rw c.loop-p.invariant (capped-≤ _) in
+    let one : c.kept.result ≤ past_budgets = rw c.kept.ensures (c.requires.small _) in
+    omega arith
 
-pub loop-i-preserved : goal.loop-i-preserved
+pub loop-p-preserved : goal.loop-p-preserved
 unfolding constraint_count
-loop-i-preserved c = let l = laid c.args.s.now (checked c.args.s.now c.requires.s_value) c.requires.at_value in (
-  total-more c.args.s.now c.requires.s_value c.requires.kept c.loop-i.i (omega (arith, l, l.order)) (omega (arith, l)) c.loop-i.invariant.0
-      (c.kept.ensures ∙ ap (λ k. get_or c.args.costs.now k 0) c.name_x.ensures) c.capped-total.ensures,
-  omega arith,
-)
+loop-p-preserved c =
+    let bs = c.args.table.now.bytes.now in
+    let l = laid-in c.args.table.now in
+    let first = constraints_at bs in
+    let one_more : c.loop-p.p + 1 - first ≡ c.loop-p.p - first + 1 = omega (arith, l) in
+    rw one_more
+    (total-more bs c.args.table.now.sound c.requires (c.loop-p.p - first) (omega (arith, l)) (omega (arith, l)) c.loop-p.invariant
+    (rw (c.named-root.ensures.x, c.record_at.ensures) at c.kept.ensures) c.capped-total.ensures)
 
 pub returns : goal.returns
 unfolding constraint_count
-returns c = let l = laid c.args.s.now (checked c.args.s.now c.requires.s_value) c.requires.at_value in
-    c.loop-i.invariant.0 ∙ total-all c.args.s.now c.loop-i.i (omega (arith, l, l.order, c.loop-i.invariant.1))
+returns c =
+    let bs = c.args.table.now.bytes.now in
+    let l = laid-in c.args.table.now in
+    c.loop-p.invariant ∙ total-all bs (c.loop-p.p - constraints_at bs) (omega (arith, l, l.order))

@@ -1,11 +1,13 @@
 -- `table::marked` meets its contract: the record is within the table.
-use mathlib.Core.Path.{◌≡◌, sym, ◌∙◌}
+use mathlib.Core.Path.{◌≡◌, sym, ap, ◌∙◌}
+use lib.ListN.{get_or}
 use mathlib.Core.Bool.{Bool, ◌&&◌}
-use Prim.Native.Nat.{ℕ, ◌+◌, ◌*◌}
+use Prim.Native.Nat.{ℕ}
 use native.Mathlib.Omega.{arith}
 use borrow.Author.Tests.{eq-eqb, ne_eqb}
 use lib.Dec.{eqb}
 use Rattle.table.specs.Records.{record_size, record_count, byte_at, marked}
+use Rattle.table.specs.Marks.{letters_of}
 use Rattle.table.proofs.marked.Goals as goal
 
 -- the first letter stands there: the second decides
@@ -33,9 +35,9 @@ unfolding record_size record_count
 bounds-table-at-then-table-at c = omega arith
 
 pub returns-then-table-at : goal.returns-then-table-at
-unfolding record_size byte_at marked
-returns-then-table-at c = both-letters (byte_at c.args.table.now (record_size * c.args.p)) (byte_at c.args.table.now (record_size * c.args.p + 1)) c.if-table-at.true c.first_letter-first.ensures c.second_letter-second.ensures
+unfolding marked letters_of record_size byte_at
+returns-then-table-at c = both-letters _ _ c.if-table-at.true (ap (λ l. get_or l 0 0) c.letters.ensures) (ap (λ l. get_or l 1 0) c.letters.ensures)
 
 pub returns-else-table-at : goal.returns-else-table-at
-unfolding record_size byte_at marked
-returns-else-table-at c = other-letter (byte_at c.args.table.now (record_size * c.args.p)) _ c.if-table-at.false c.first_letter-first.ensures
+unfolding marked letters_of record_size byte_at
+returns-else-table-at c = other-letter _ _ c.if-table-at.false (ap (λ l. get_or l 0 0) c.letters.ensures)

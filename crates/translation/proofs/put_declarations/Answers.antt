@@ -1,26 +1,46 @@
 -- `translation::put_declarations` meets its contract.
-use mathlib.Core.Path.{◌∙◌}
+use mathlib.Core.Path.{ap, ◌∙◌}
+use Prim.Native.Nat.{◌-◌, ◌*◌}
 use native.Mathlib.Omega.{arith}
-use Rattle.table.specs.Records.{record_size, record_count}
-use Rattle.layout.proofs.Order.{laid}
-use Rattle.translation.proofs.Wholes.{before-nodes, nodes-within, front-stores}
+use lib.Seq.{sets, length-take-le}
+use lib.ListN.{length, length-drop}
+use Rattle.table.specs.Records.{record_size}
+use Rattle.translator.proofs.Stores.{part-stored}
+use Rattle.translation.proofs.Wholes.{front-place, front-stores}
 use Rattle.translation.proofs.put_declarations.Goals as goal
 
+pub overflow_mul-end : goal.overflow_mul-end
+overflow_mul-end c = let f = front-place c.args.table.now in omega arith
+
 pub put_record-requires : goal.put_record-requires
-put_record-requires c = omega (arith, before-nodes c.args.s.now c.requires.passed, c.requires.s_in_bounds)
-
-pub overflow_mul-at : goal.overflow_mul-at
-unfolding record_count
-overflow_mul-at c = let l = laid c.args.s.now c.requires.passed c.requires.at_value in omega (arith, l, l.order)
-
-pub copy_part-requires : goal.copy_part-requires
 unfolding record_size
-copy_part-requires c = let s = c.args.s.now in let l = laid s c.requires.passed c.requires.at_value in record { from_le_end = omega (arith, l, before-nodes s c.requires.passed); end_in_bounds = omega (arith, l, nodes-within s c.requires.passed); end_in_bounds_2 = omega (arith, l, c.requires.s_in_bounds, c.put_record.auto.out) }
+put_record-requires c = let f = front-place c.args.table.now in omega (arith, c.requires)
 
-pub shape_of-out : goal.shape_of-out
-shape_of-out c = c.copy_part.auto.out ∙ c.put_record.auto.out
+pub slice_bounds-copy_from_slice-count : goal.slice_bounds-copy_from_slice-count
+slice_bounds-copy_from_slice-count c = let f = front-place c.args.table.now in omega arith
+
+pub slice_bounds-copy_from_slice-start : goal.slice_bounds-copy_from_slice-start
+unfolding record_size
+slice_bounds-copy_from_slice-start c = let f = front-place c.args.table.now in omega (arith, c.requires, c.put_record.auto.out)
+
+pub slice_bounds-copy_from_slice-end : goal.slice_bounds-copy_from_slice-end
+unfolding record_size
+slice_bounds-copy_from_slice-end c = let f = front-place c.args.table.now in omega (arith, c.requires, c.put_record.auto.out)
+
+pub slice_bounds-copy_from_slice-count-2 : goal.slice_bounds-copy_from_slice-count-2
+slice_bounds-copy_from_slice-count-2 c = let f = front-place c.args.table.now in omega arith
+
+pub slice_bounds-copy_from_slice-start-2 : goal.slice_bounds-copy_from_slice-start-2
+slice_bounds-copy_from_slice-start-2 c = let f = front-place c.args.table.now in omega arith
+
+pub slice_bounds-copy_from_slice-end-2 : goal.slice_bounds-copy_from_slice-end-2
+slice_bounds-copy_from_slice-end-2 c = let f = front-place c.args.table.now in omega arith
 
 pub returns : goal.returns
 unfolding record_size
-returns c = let l = laid c.args.s.now c.requires.passed c.requires.at_value in
-    front-stores c.args.s.now c.args.records c.args.out.now c.put_record.ensures (rw l.nodes at c.copy_part.ensures)
+returns c =
+    let f = front-place c.args.table.now in
+    let copied = c.copy_from_slice.ensures.after in
+    let long = length-take-le (12 * c.args.table.now.at.nodes - 12) _ (rw length-drop (omega arith)) in
+    let stored = part-stored c.put_record.new.out _ 12 _ (ap length copied ∙ long) (omega (arith, c.requires, c.put_record.auto.out)) in
+    front-stores _ c.args.records c.args.out.now c.put_record.ensures (stored ∙ ap (sets c.put_record.new.out 12) (rw f.nodes at copied))

@@ -1,14 +1,13 @@
 -- `translation::translate` meets its contract: it answers for every input what document 01 says.
-use mathlib.Core.Path.{sym, ap, ◌∙◌}
-use Rattle.reading.specs.Readings.{meant_by}
+use mathlib.Core.Path.{sym}
+use Rattle.std.proofs.lemmas.Result.{err_from_is_err_and}
 use Rattle.translation.proofs.Outcomes.{refused-choice}
 use Rattle.translation.proofs.translate.Goals as goal
 
-pub shape_of-out : goal.shape_of-out
-shape_of-out c = c.translate_under.auto.out
+pub returns-in_err-try_from : goal.returns-in_err-try_from
+returns-in_err-try_from c =
+    let p = err_from_is_err_and c.from_residual.result c.from_residual.ensures.1 in
+    rw (p.1, p.2) (refused-choice _ _ _ c.in_err-try_from.ensures)
 
-pub returns-in-Under : goal.returns-in-Under
-returns-in-Under c = c.translate_under.ensures _ (sym c.reading_of.ensures ∙ ap meant_by c.in-Under.is)
-
-pub returns-in-Nothing : goal.returns-in-Nothing
-returns-in-Nothing c = refused-choice c.args.choice c.args.table.now c.args.out.now (sym (ap meant_by c.in-Nothing.is) ∙ c.reading_of.ensures)
+pub returns : goal.returns
+returns c = c.translate_under.ensures _ (sym c.in_ok-try_from.ensures)

@@ -29,10 +29,10 @@ few : {n m : ℕ} → n ≡ m → m ≤ 10000 → Fits w32 n
 few e h = record { fits = omega arith }
 
 pub overflow_add-result : goal.overflow_add-result
-overflow_add-result c = few (counted c.args.low c.args.high c.ranges.low c.ranges.high c.if-low-high.true c.distance.ensures) c.requires
+overflow_add-result c = few (counted c.args.low c.args.high c.ranges.low c.ranges.high c.if-low-high.true c.abs_diff.ensures) c.requires
 
 pub returns-then-low-high : goal.returns-then-low-high
-returns-then-low-high c = counted c.args.low c.args.high c.ranges.low c.ranges.high c.if-low-high.true c.distance.ensures
+returns-then-low-high c = counted c.args.low c.args.high c.ranges.low c.ranges.high c.if-low-high.true c.abs_diff.ensures
 
 pub returns-else-low-high : goal.returns-else-low-high
 returns-else-low-high c = none c.args.low c.args.high c.ranges.low c.ranges.high c.if-low-high.false

@@ -1,8 +1,12 @@
 -- `translator::writer::put_record` meets its contract.
-use mathlib.Core.Path.{◌∙◌}
+use mathlib.Core.Path.{ap, ◌∙◌}
+use Prim.Native.Nat.{◌+◌}
+use lib.Seq.{sets}
 use Rattle.translator.proofs.Stores.{record_stores}
-use Rattle.table.specs.Records.{record_size}
-use lib.ListN.{length-set}
+use Rattle.table.specs.Records.{record_size, first_letter, second_letter, word_bytes}
+use Rattle.table.specs.Marks.{mark_of, letters_of}
+use Rattle.translator.specs.Cells.{bytes_of}
+use lib.ListN.{set, get_or, length-set}
 use native.Mathlib.Omega.{arith}
 use Rattle.translator.proofs.writer.put_record.Goals as goal
 
@@ -54,4 +58,10 @@ pub shape_of-out : goal.shape_of-out
 shape_of-out c = c.put_word-2.auto.out ∙ c.put_word.auto.out ∙ simp length-set
 
 pub returns : goal.returns
-returns c = let e = c.args in record_stores e.out.now e.at e.first e.second e.kind e.x e.y c.put_word.ensures c.put_word-2.ensures
+unfolding bytes_of letters_of
+returns c = let new = c.args.new in
+    let out = c.args.out.now in
+    let at = c.args.at in
+    record_stores out at (first_letter (mark_of new.mark)) (second_letter (mark_of new.mark)) new.kind new.x new.y
+    (c.put_word.ensures ∙ ap (λ l. sets (set (set (set (set out at (get_or l 0 0)) (at + 1) (get_or l 1 0)) (at + 2) new.kind) (at + 3) 0) (at + 4) (word_bytes new.x)) c.letters.ensures)
+    c.put_word-2.ensures

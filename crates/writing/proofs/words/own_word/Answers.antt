@@ -1,21 +1,22 @@
 -- `writing::words::own_word` meets its contract.
-use mathlib.Core.Path.{◌∙◌}
-use native.Mathlib.Omega.{arith}
-use Rattle.layout.proofs.Words.{signed-nat_abs-≤}
-use Rattle.writing.proofs.Codes.{of_any_number, truth-one, truth-other, a-name}
+use mathlib.Core.Path.{ap, ◌∙◌}
+use lib.IntN.{nat_abs}
+use mir.Syntax.{w32}
+use mir.Val.{of_z}
+use mir.Facts.{to_z-of_z}
+use Rattle.table.specs.Records.{bits_of}
+use Rattle.writing.specs.Operands.{stands_for}
+use Rattle.writing.proofs.Operands.{machine-bits, truth-bits, other-stands}
 use Rattle.writing.proofs.words.own_word.Goals as goal
 
-pub overflow_cast-result : goal.overflow_cast-result
-overflow_cast-result c = omega (arith, c.named.ensures, signed-nat_abs-≤ c.args.w)
+pub returns-in-AnyNumber : goal.returns-in-AnyNumber
+unfolding stands_for
+returns-in-AnyNumber c = rw c.in-AnyNumber.is (c.cast_unsigned.ensures ∙ ap (of_z w32) (to_z-of_z {w = w32} c.ranges.x) ∙ machine-bits c.args.x)
 
-pub returns-then-code-eq-ANY_NUMBER : goal.returns-then-code-eq-ANY_NUMBER
-returns-then-code-eq-ANY_NUMBER c = of_any_number _ _ c.if-code-eq-ANY_NUMBER.true (omega arith)
+pub returns-in-TruthValue : goal.returns-in-TruthValue
+unfolding stands_for
+returns-in-TruthValue c = rw c.in-TruthValue.is (c.from.ensures ∙ truth-bits c.args.x c.ranges.x)
 
-pub returns-then-w-eq1 : goal.returns-then-w-eq1
-returns-then-w-eq1 c = truth-one _ _ c.if-code-eq-TRUTH_VALUE.true c.if-w-eq1.true
-
-pub returns-else-w-eq1 : goal.returns-else-w-eq1
-returns-else-w-eq1 c = truth-other _ _ c.if-code-eq-TRUTH_VALUE.true c.if-w-eq1.false
-
-pub returns-else-code-eq-TRUTH_VALUE : goal.returns-else-code-eq-TRUTH_VALUE
-returns-else-code-eq-TRUTH_VALUE c = c.named.ensures ∙ a-name _ _ c.if-code-eq-ANY_NUMBER.false c.if-code-eq-TRUTH_VALUE.false
+pub returns-in_default : goal.returns-in_default
+unfolding bits_of
+returns-in_default c = rw (other-stands c.args.operand c.args.x c.in_default.not-AnyNumber c.in_default.not-TruthValue) (c.unsigned_abs.ensures.value ∙ ap nat_abs (to_z-of_z {w = w32} c.ranges.x))
