@@ -51,6 +51,8 @@ impl<E: Refused + Drop> From<Result<Totals, E>> for Answer {
     }
 }
 
+// Kept: each call's promise stands at its crate's function, here and at what C links, since all three are public and the page of the demands names them.
+
 // Checks a table.
 pub fn barfigol_check(table: &[u8]) -> Answer
     ensures { answer_of result ≡ Answers.check table.now }

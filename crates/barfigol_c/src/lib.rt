@@ -7,6 +7,8 @@ ghost use Rattle.barfigol.specs.Results.{answer_of, outcome_of};
 
 use barfigol::Answer;
 
+// Kept: the three functions of `barfigol` once more, each under its name, since these are what C links.
+
 // Checks a table.
 #[unsafe(no_mangle)]
 pub extern "C" fn barfigol_check(table: &[u8]) -> Answer

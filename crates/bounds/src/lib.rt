@@ -53,6 +53,7 @@ fn element(table: &CheckedTable, p: usize) -> Interval
     ensures { interval_of result ≡ element_interval (declarations table.now.bytes.now) (element_of table.now.bytes.now p) }
 {
     let element = table.record_at(p);
+    // Kept: 0 for a constant, as the record has it. An enum of two cases would be made here and matched in the next line: no plainer.
     if element.kind == 0 {
         Interval::only(element.x)
     } else {

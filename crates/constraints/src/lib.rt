@@ -22,6 +22,7 @@ pub struct Verdicts {
 }
 
 // "0 false, 1 true, 2 undefined"
+// Kept: a function, since `From<Value> for u8` may stand only where `Value` does, and these numbers are this crate's.
 fn verdict_byte(value: Value) -> u8
     ensures { result ≡ verdict (truth_of value) }
 {

@@ -16,6 +16,18 @@ use kinds::Sort;
 use table::{Mark, Record, VariableNumber};
 use verdict::Fault;
 
+// Record `p` by itself, where the test of it passed or not.
+fn allowed(passed: bool, p: usize) -> Result<(), Fault>
+    requires { p < 4_294_967_296 }
+    ensures { refusal_of result ≡ fault_at p (unless 3 passed) }
+{
+    if passed {
+        Ok(())
+    } else {
+        Err(Fault::NotAllowed(p as u32))
+    }
+}
+
 // "HD: kind 1, x = number of records, this one included"
 #[tactic(auto, unfolding(answers::specs::Check::is_zero, numbers::specs::Whole::eq_z))]
 fn header_allowed(head: Record, count: usize) -> bool
@@ -64,13 +76,7 @@ pub fn variables(table: &[u8], count: usize) -> Result<(), Fault>
     requires { Section table.now 1 count }
     ensures { refusal_of result ≡ first_fault (λ i. variable_fault table.now i (1 + i)) 1 count }
 {
-    for i in 0..count {
-        let p = 1 + i;
-        if !variable_allowed(table, i, p) {
-            return Err(Fault::NotAllowed(p as u32));
-        }
-    }
-    Ok(())
+    verdict::check_each(count, |i| allowed(variable_allowed(table, i, 1 + i), 1 + i))
 }
 
 // Within ±1,000,000,000.
@@ -106,13 +112,10 @@ pub fn slots(table: &[u8], from: usize, count: usize) -> Result<(), Fault>
     requires { Section table.now from count }
     ensures { refusal_of result ≡ first_fault (λ i. slot_fault table.now i (from + i)) from count }
 {
-    for i in 0..count {
-        let p = from + i;
-        if !slot_allowed(table, i, p) {
-            return Err(Fault::NotAllowed(p as u32));
-        }
-    }
-    Ok(())
+    verdict::check_each(
+        count,
+        |i| allowed(slot_allowed(table, i, from + i), from + i),
+    )
 }
 
 // "1 to 1,024"
@@ -153,6 +156,7 @@ fn element_allowed(element: Record, sort: Sort) -> bool
 }
 
 // One record of an array of a type.
+// Kept: the clause `Variables`, here and in the two functions below. The number is found once, and a type for it and the table would be taken apart at once: no plainer.
 fn element(table: &[u8], sort: Sort, p: usize, variables: u16) -> Result<(), Fault>
     requires p_bound { p ≤ record_count table.now }
     requires variables { Variables table.now variables }
@@ -168,6 +172,7 @@ fn element(table: &[u8], sort: Sort, p: usize, variables: u16) -> Result<(), Fau
     if !element_allowed(element, sort) {
         return Err(Fault::NotAllowed(p as u32));
     }
+    // Kept: 0 for a constant, as the record has it. An enum of two cases would be made here and matched in the next line: no plainer.
     if element.kind == 0 {
         return Ok(());
     }
@@ -194,10 +199,7 @@ fn elements(
     requires variables { Variables table.now variables }
     ensures { refusal_of result ≡ first_fault (λ i. element_fault table.now (type_of sort) (from + i)) from count }
 {
-    for i in 0..count {
-        element(table, sort, from + i, variables)?;
-    }
-    Ok(())
+    verdict::check_each(count, |i| element(table, sort, from + i, variables))
 }
 
 pub fn arrays(table: &[u8], from: usize, variables: usize) -> Result<(), Fault>

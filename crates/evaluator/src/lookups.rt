@@ -55,6 +55,7 @@ impl Walk<'_> {
         ensures { result ≡ element_value self.now.assignment.now (element_of self.now.table.now p) }
     {
         let element = self.record_at(p);
+        // Kept: 0 for a constant, as the record has it. An enum of two cases would be made here and matched in the next line: no plainer.
         if element.kind == 0 {
             element.x
         } else {

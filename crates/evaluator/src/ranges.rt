@@ -1,29 +1,18 @@
 // The ranges of slots.
-ghost use Rattle.std.specs.Prelude.{◌≡◌, pos, ◌+ℤ◌, ◌≤◌, ◌<◌};
+ghost use Rattle.std.specs.Prelude.{◌≡◌, pos, ◌+ℤ◌};
 ghost use Rattle.std.specs.Int.{w32};
 ghost use Rattle.std.proofs.Common.{SFits};
-ghost use Rattle.language.specs.Meaning.{count, slot_at};
+ghost use Rattle.language.specs.Meaning.{slot_at};
 ghost use Rattle.evaluator.specs.Walks.{declared, range_of};
 
 use crate::places::Walk;
-use table::SlotNumber;
+use table::{SlotNumber, values_between};
 
 // A slot's first value and how many it has.
 #[derive(Clone, Copy)]
 pub struct Range {
     pub low: i32,
     pub count: u32,
-}
-
-fn values_between(low: i32, high: i32) -> u32
-    requires { count (record { low = low; high = high }) ≤ 10000 }
-    ensures { result ≡ count (record { low = low; high = high }) }
-{
-    if low <= high {
-        high.abs_diff(low) + 1
-    } else {
-        0
-    }
 }
 
 impl Range {
@@ -46,7 +35,7 @@ impl Walk<'_> {
             let slot = self.record_at(self.places.slots_from + s);
             Range {
                 low: slot.x,
-                count: values_between(slot.x, slot.y),
+                count: values_between(slot.x, slot.y) as u32, // at most 10,000
             }
         } else {
             Range { low: 1, count: 0 }

@@ -38,6 +38,8 @@ fn joins(q: Quantifier) -> Connective
     }
 }
 
+// Kept: two clauses at each function of the cycle. That a node's number is within the table would be a type tied to one table, and that the slots'
+// values are as they were is said of a call, not of a value.
 impl Walk<'_> {
     // An integer operand: a leaf is worked out on the spot.
     #[cycle(walk)]

@@ -1,7 +1,7 @@
 // Intervals, and what each operation makes of its operands' intervals.
 #![tactic(auto)]
 
-ghost use Rattle.std.specs.Prelude.{◌≡◌, pos, ◌*ℤ◌};
+ghost use Rattle.std.specs.Prelude.{◌≡◌, ◌*ℤ◌};
 ghost use Rattle.numbers.specs.Whole as Whole;
 ghost use Rattle.language.specs.Syntax as Syntax;
 ghost use Rattle.language.specs.Meaning as Meaning;
@@ -9,6 +9,7 @@ ghost use Rattle.rules.specs.Bounds as Bounds;
 ghost use Rattle.intervals.specs.Spans.{span, interval_of, as_slot, opposite, repeated, IsNarrowed};
 
 use std::ops::{Add, Mul, Neg, Sub};
+use table::values_between;
 
 // "Beyond ±2,000,000,000".
 const LIMIT: i64 = 2_000_000_000;
@@ -224,23 +225,11 @@ impl Slot {
         }
     }
 
-    // How many values the slot has.
-    #[tactic(auto, using(std::proofs::lemmas::Int::ints), unfolding(language::specs::Meaning::count))]
-    fn count(self) -> i64
-        ensures { result ≡ pos (Meaning.count (as_slot self)) }
-    {
-        if self.low <= self.high {
-            i64::from(self.high) - i64::from(self.low) + 1
-        } else {
-            0
-        }
-    }
-
     // The body's ends times the slot's count.
     pub fn sum(self, body: Interval) -> Ends
         ensures { span result ≡ repeated (Meaning.count (as_slot self)) (interval_of body) }
     {
-        let n = self.count();
+        let n = values_between(self.low, self.high) as i64;
         Ends {
             low: n * i64::from(body.low),
             high: n * i64::from(body.high),

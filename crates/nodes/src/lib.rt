@@ -39,6 +39,7 @@ fn enter_variables(facts: &mut [Fact; FACTS], table: &[u8], count: usize)
 }
 
 // Each array begins behind the elements of the one before it.
+// Kept: three loops that enter, each with its range and step; one over a closure needs an `FnMut` that moves `p` along the arrays: no plainer.
 fn enter_arrays(facts: &mut [Fact; FACTS], table: &[u8], from: usize, count: usize)
     requires { Arrays table.now from count }
     ensures { facts.new ≡ entered 19 (λ a. declared_fact (kind_at table.now (get_or (array_records table.now) a 0))) count facts.old }
@@ -107,10 +108,7 @@ fn constraints(
     ensures { refusal_of result ≡ first_fault (λ i. constraint_fault table.now (from + i)) from count }
 {
     let all = (1u32 << (slots as u32)) - 1;
-    for i in 0..count {
-        constraint(table, from + i, all, known)?;
-    }
-    Ok(())
+    verdict::check_each(count, |i| constraint(table, from + i, all, known))
 }
 
 // The nodes and the constraints of a table whose declarations are sound.

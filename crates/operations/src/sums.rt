@@ -7,6 +7,7 @@ ghost use Rattle.operations.specs.Sums.{total_of, total_value, magnitude, plus_t
 use crate::values::{Value, Walked, limited, undefined};
 
 // A sum so far: none once an addend is undefined.
+// Kept: the flag beside the sum, since it is that of the `Walked` structs that go in and of the one that comes out.
 #[derive(Clone, Copy, Debug, PartialEq, Eq)]
 pub struct Total {
     pub sum: Option<i64>,

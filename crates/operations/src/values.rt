@@ -13,6 +13,7 @@ pub enum Value {
 
 // What a walk over a node gives back: its value, and whether every integer node met had a value within the limit.
 // Past the limit the value does not matter any more, and is left undefined.
+// Kept: the flag beside the value, since a value enum held in the evaluator's result struct is a form that document 01 names.
 #[derive(Clone, Copy, Debug, PartialEq, Eq)]
 pub struct Walked {
     pub value: Value,

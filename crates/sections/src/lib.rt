@@ -58,6 +58,7 @@ pub fn array_run(table: &[u8], from: usize) -> ArrayRun
     ArrayRun { end: p, count }
 }
 
+// Kept: whole records as a `requires`, here and above. A struct around the slice would be made and taken apart again by both callers: no plainer.
 pub fn find_places(table: &[u8]) -> Places
     requires { length table.now % record_size ≡ 0 }
     ensures { result ≡ places_of table.now }

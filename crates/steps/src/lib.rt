@@ -13,7 +13,7 @@ ghost use Rattle.steps.specs.Shapes.{shape_of};
 ghost use Rattle.steps.specs.Kept.{Kept};
 
 use layout::checked_table::CheckedTable;
-use table::MOST_RECORDS;
+use table::{MOST_RECORDS, values_between};
 
 // Whose steps a node takes over: nobody's, those of node x, of node y, of both, or of the body y for each value of slot x.
 #[derive(Clone, Copy, Debug, PartialEq, Eq)]
@@ -85,18 +85,6 @@ fn kept(costs: &[u64; MOST_RECORDS], k: u32) -> u64
     ensures { result ≡ get_or costs.now k 0 }
 {
     costs.get(k as usize).copied().unwrap_or(0)
-}
-
-// How many values lie from low to high.
-#[tactic(auto, unfolding(language::specs::Meaning::count))]
-fn values_between(low: i32, high: i32) -> u64
-    ensures { result ≡ count (record { low = low; high = high }) }
-{
-    if low <= high {
-        u64::from(high.abs_diff(low)) + 1
-    } else {
-        0 // 0 times anything is 0
-    }
 }
 
 // How many values slot n has.

@@ -1,7 +1,8 @@
-// The table on disk in code: numbers that cannot be confused, the marks, and the parts of a record.
+// The table on disk in code: numbers that cannot be confused, the marks, the parts of a record, and how many values a range has.
 #![tactic(auto)]
 
 ghost use Rattle.std.specs.Prelude.{◌≡◌, ◌+◌, ◌*◌, ◌≤◌, ◌<◌, length, nat_abs};
+ghost use Rattle.language.specs.Meaning.{count};
 ghost use Rattle.table.specs.Records as Records;
 ghost use Rattle.table.specs.Records.{record_count, word_at};
 ghost use Rattle.table.specs.Marks.{mark_of, letters_of};
@@ -115,6 +116,7 @@ fn number_at(table: &[u8], i: usize) -> i32
 }
 
 // What stands in record `p` behind its mark.
+// Kept: the bound on `p` as a `requires`, here and elsewhere: each caller knows it of another record, from its own loop or section.
 #[tactic(auto, unfolding(crate::specs::Records::record_size, crate::specs::Records::record_count))]
 pub fn record_at(table: &[u8], p: usize) -> Record
     requires { p < record_count table.now }
@@ -126,5 +128,17 @@ pub fn record_at(table: &[u8], p: usize) -> Record
         aux: table[at + AUX],
         x: number_at(table, at + X),
         y: number_at(table, at + Y),
+    }
+}
+
+// How many values lie from low to high.
+#[tactic(auto, unfolding(language::specs::Meaning::count))]
+pub fn values_between(low: i32, high: i32) -> u64
+    ensures { result ≡ count (record { low = low; high = high }) }
+{
+    if low <= high {
+        u64::from(high.abs_diff(low)) + 1
+    } else {
+        0
     }
 }

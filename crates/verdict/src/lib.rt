@@ -1,9 +1,10 @@
 // What the check says of a table, and what every refusal tells.
 #![tactic(auto)]
 
-ghost use Rattle.std.specs.Prelude.{◌≡◌};
+ghost use Rattle.std.specs.Prelude.{◌≡◌, Ok};
 ghost use Rattle.answers.specs.Check.{Refusal};
 ghost use Rattle.verdict.specs.Results.{number_and_record, number_in, record_in};
+ghost use Rattle.verdict.specs.FirstFaults.{InTurn, FirstFaultOf};
 
 // What a refusal tells: document 01's number, and the record that it is about, 0 where there is none.
 pub trait Refused {
@@ -77,4 +78,16 @@ pub fn record<T, E: Refused>(given: &Result<T, E>) -> u32
         Ok(_) => 0,
         Err(refusal) => refusal.record(),
     }
+}
+
+// The checks of things 0 to `count` - 1 in order, up to the first that finds a fault.
+pub fn check_each<F: Fn(usize) -> Result<(), Fault>>(count: usize, check: F) -> Result<(), Fault>
+    requires { InTurn (F.pre check) (F.post check) count }
+    ensures { FirstFaultOf (F.post check) count result }
+{
+    // Kept: with `try_for_each` here, as tried, the check leaves its `callable` clause and the result open; with the loop it leaves none.
+    for i in 0..count {
+        check(i)?;
+    }
+    Ok(())
 }

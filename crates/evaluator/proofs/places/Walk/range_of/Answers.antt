@@ -1,10 +1,11 @@
 -- `evaluator::places::Walk::range_of` meets its contract.
 use mathlib.Core.Path.{◌≡◌, sym, ap, ◌∙◌}
-use Prim.Native.Nat.{ℕ}
+use Prim.Native.Nat.{ℕ, ◌≤◌}
+use native.Mathlib.Omega.{arith}
 use mathlib.Core.List.{List}
 use lib.IntN.{pos}
 use mir.Syntax.{w32}
-use mir.Val.{to_z, of_z}
+use mir.Val.{Fits, to_z, of_z}
 use Rattle.language.specs.Syntax.{Slot}
 use Rattle.language.specs.Meaning.{count, no_slot}
 use Rattle.table.specs.Parts.{parts_of}
@@ -26,12 +27,15 @@ module _ (bs : List ℕ) (p : ℕ) {r : Record} (e : r ≡ parts_of bs p) where
       ◌≡◌ {A = Range} (record { low = to_z w32 (of_z w32 r.x); count = n }) (range_of s)
   declared-range {n} {s} h d = rw h (ap range_of (ends ∙ sym d))
 
+few : {n m : ℕ} → n ≡ m → m ≤ 10000 → Fits w32 n
+few e h = record { fits = omega arith }
+
 no-range : {s : Slot} → s ≡ no_slot → ◌≡◌ {A = Range} (record { low = pos 1; count = 0 }) (range_of s)
 unfolding no_slot count
 no-range e = rw e
 
-pub values_between-requires : goal.values_between-requires
-values_between-requires c = rw (ends _ _ c.record_at-slot.ensures) (c.args.self.now.laid.few_values c.args.s.0 c.if-s-self.true)
+pub overflow_cast-result : goal.overflow_cast-result
+overflow_cast-result c = few (c.values_between.ensures ∙ ap count (ends _ _ c.record_at-slot.ensures)) (c.args.self.now.laid.few_values c.args.s.0 c.if-s-self.true)
 
 pub returns-then-s-self : goal.returns-then-s-self
 returns-then-s-self c = declared-range _ _ c.record_at-slot.ensures c.values_between.ensures (slot-declared c.args.self.now.table.now c.args.self.now.places.now c.args.s.0 c.if-s-self.true)
