@@ -32,6 +32,14 @@ pub fn slot(setting: &[i32; 16], s: SlotNumber) -> i32
     number_at(setting, s.0)
 }
 
+// The value of a variable in an assignment; past its end 0.
+#[tactic(auto, unfolding(language::specs::Meaning::value_of))]
+pub fn variable(assignment: &[i32], v: VariableNumber) -> i32
+    ensures { result ≡ value_of assignment.now v.0 }
+{
+    number_at(assignment, v.0)
+}
+
 impl Walk<'_> {
     // What stands in record p behind its mark.
     pub fn record_at(&self, p: usize) -> Record
@@ -42,11 +50,10 @@ impl Walk<'_> {
         record_at(table, p)
     }
 
-    #[tactic(auto, unfolding(language::specs::Meaning::value_of))]
     pub fn variable(&self, v: VariableNumber) -> i32
         ensures { result ≡ value_of self.now.assignment.now v.0 }
     {
-        number_at(self.assignment, v.0)
+        variable(self.assignment, v)
     }
 
     // What an element record gives: a constant, or the variable that it names.

@@ -7,6 +7,10 @@ use Rattle.answers.specs.Listing.{refusal_line}
 abbrev pub longest_line : ℕ
 longest_line = 35
 
+-- `refused`, two numbers of at most ten digits, two spaces and a newline
+abbrev pub longest_refusal : ℕ
+longest_refusal = 30
+
 -- the line of a refusal with this number at this record
 abbrev pub refusal_text : ℕ → ℕ → List ℕ
 refusal_text n k = refusal_line (record { number = n; at = k })

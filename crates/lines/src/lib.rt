@@ -5,7 +5,7 @@
 ghost use Rattle.std.specs.Prelude.{◌≡◌, ◌++◌, ◌+◌, ◌*◌, ◌^◌, ◌≤◌, ◌<◌, [], length, drop, unsigned_abs};
 ghost use Rattle.table.specs.Records.{record_count};
 ghost use Rattle.answers.specs.Listing.{decimal, signed_decimal, space, line_of, lines_of};
-ghost use Rattle.lines.specs.Pieces.{longest_line, refusal_text};
+ghost use Rattle.lines.specs.Pieces.{longest_line, longest_refusal, refusal_text};
 
 use std::marker::Model;
 use table::RECORD_SIZE;
@@ -63,7 +63,8 @@ impl Line {
 
     // "on refusal: `refused`, number, record"
     pub fn of_refusal(number: u32, at: u32) -> Self
-        ensures { result ≡ refusal_text number at }
+        ensures value { result ≡ refusal_text number at }
+        ensures upper_bound { length result ≤ longest_refusal }
     {
         let mut line = Line::new();
         line.push(b"refused");

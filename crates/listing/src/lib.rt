@@ -14,6 +14,7 @@ use verdict::Refused;
 pub const MOST_TEXT: usize = 175_000;
 
 // "one digit of choice (any other byte, or none, counts as choice 0)"
+// Kept: a function over bytes, since no type stands behind the number; what `From` would say of it stands in its clause.
 #[tactic(auto, unfolding(answers::specs::Listing::choice_of))]
 fn choice_of(b: u8) -> u32
     ensures { result ≡ choice_of b }

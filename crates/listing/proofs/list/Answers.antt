@@ -30,10 +30,10 @@ pub returns-in-Err-clause-value : goal.returns-in-Err-clause-value
 unfolding answer_of refused
 returns-in-Err-clause-value c =
     let text = refusal-told _ _ c.in-Err.ensures (λ z. omega (arith, refusal-above c.in-Err.refusal, z, c.number.ensures)) c.number.ensures c.«record».ensures ∙ c.choice_and_table-choice.ensures in
-    ap length (c.as_bytes-line.ensures.value ∙ c.of_refusal-line.ensures ∙ text)
+    ap length (c.as_bytes-line.ensures.value ∙ c.of_refusal-line.ensures.value ∙ text)
 
 pub returns-in-Err-clause-text_after : goal.returns-in-Err-clause-text_after
 unfolding answer_of refused
 returns-in-Err-clause-text_after c =
     let text = refusal-told _ _ c.in-Err.ensures (λ z. omega (arith, refusal-above c.in-Err.refusal, z, c.number.ensures)) c.number.ensures c.«record».ensures ∙ c.choice_and_table-choice.ensures in
-    ap (λ (l : List ℕ). l ++ drop (length c.as_bytes-line.result.now) c.args.text.now) (c.copy_from_slice.ensures.after ∙ c.as_bytes-line.ensures.value ∙ c.of_refusal-line.ensures ∙ text)
+    ap (λ (l : List ℕ). l ++ drop (length c.as_bytes-line.result.now) c.args.text.now) (c.copy_from_slice.ensures.after ∙ c.as_bytes-line.ensures.value ∙ c.of_refusal-line.ensures.value ∙ text)
