@@ -1,11 +1,17 @@
--- `evaluator::places::Walk::leaf_at` meets its contract, by the kind.
+-- `evaluator::lookups::leaf_at` meets its contract, by the kind.
+use native.Mathlib.Omega.{arith}
 use borrow.Author.Rules.{sfits_of}
 use mathlib.Core.Path.{refl, ap, ◌∙◌}
 use Rattle.std.proofs.Common.{Some}
+use Rattle.table.specs.Records.{record_size, record_count}
 use Rattle.evaluator.proofs.Decoding.{leaf-arm, leaf-none, leaf-other}
 use Rattle.evaluator.proofs.Reading.{kind-is, x-is, x-fits}
 use Rattle.evaluator.proofs.Stepping.{of_leaf}
-use Rattle.evaluator.proofs.places.Walk.leaf_at.Goals as goal
+use Rattle.evaluator.proofs.lookups.leaf_at.Goals as goal
+
+pub record_at-row-requires : goal.record_at-row-requires
+unfolding record_size record_count
+record_at-row-requires c = omega arith
 
 pub returns-in_default : goal.returns-in_default
 returns-in_default c = leaf-none _ _ _ _ (kind-is _ _ c.record_at-row.ensures) c.in_default.ensures
