@@ -72,12 +72,12 @@ fn nodes(table: &[u8], from: usize, count: usize, known: &mut Known) -> Result<(
     Ok(())
 }
 
-// Kind, aux and y are 0.
+// Kind, aux and y are 0. The three tests are joined without a branch: a table may have thousands of constraints.
 #[tactic(auto, unfolding(answers::specs::Check::is_zero, numbers::specs::Whole::eq_z))]
 fn constraint_allowed(parts: Record) -> bool
     ensures { result ≡ (eqb parts.kind 0 && eqb parts.aux 0 && is_zero parts.y) }
 {
-    parts.kind == 0 && parts.aux == 0 && parts.y == 0
+    (parts.kind == 0) & (parts.aux == 0) & (parts.y == 0)
 }
 
 // One constraint: a Boolean node in which none of the slots in `all` is free.
