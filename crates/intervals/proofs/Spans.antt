@@ -1,5 +1,5 @@
 -- Laws of intervals as the code works them out.
-use Rattle.std.proofs.Common.{◌≡◌, ℕ, suc, ◌*◌, ◌≤◌, true, false, ◌&&◌, ℤ, pos, negsuc, ◌*ℤ◌, neg_ℤ, zero, arith, w32, w64, FitsSigned, unsigned_abs}
+use Rattle.std.proofs.Common.{◌≡◌, ℕ, suc, ◌*◌, ◌≤◌, true, false, ◌&&◌, ℤ, pos, negsuc, ◌*ℤ◌, neg_ℤ, zero, arith, w32, w64, FitsSigned, unsigned_abs, nat_abs, lit<}
 use Rattle.std.specs.Prelude.{Option, Some, None}
 use Rattle.std.specs.Int.{int_min, int_max}
 use Rattle.std.specs.Ordering.{is_le, int_cmp}
@@ -11,7 +11,8 @@ use Rattle.language.specs.Syntax.{Slot}
 use Rattle.language.specs.Meaning.{count}
 use Rattle.numbers.specs.Whole.{least, greatest, within_limit}
 use Rattle.std.proofs.lemmas.Option.{MatchOption-at_some, MatchOption-at_none}
-use Rattle.intervals.specs.Spans.{interval_of, is_within, IsNarrowed}
+use Rattle.intervals.specs.Spans.{slot_of, interval_of, is_within, Narrow, IsNarrowed}
+use Rattle.intervals.specs.declared.Ends.{Ends}
 use Rattle.intervals.specs.declared.Interval as Declared
 use Rattle.rules.specs.Bounds.{Interval, ◌to◌}
 
@@ -51,6 +52,14 @@ negative-fits (suc k) h = record { sfits = h }
 pub repeats-fits : (n : ℕ) (z : ℤ) → n ≤ 0x1_0000_0000 → FitsSigned w32 z → FitsSigned w64 (pos n *ℤ z)
 repeats-fits n (pos m) h f = record { sfits = omega (arith, mul-le-mul h (le_of_suc-le-suc (f.sfits))) }
 repeats-fits n (negsuc m) h f = negative-fits (n * suc m) (mul-le-mul h f.sfits)
+
+-- A slot with ends of 32 bits, or 2^31, has at most 2^32 + 1 values, and a number within the limit times so many fits 64 bits.
+pub count-narrow : (e : Ends) → Narrow e → count (slot_of e) ≤ 0x1_0000_0001
+unfolding count
+count-narrow e n = grind (arith, ints)
+
+pub repeats-small : (n : ℕ) (z : ℤ) → n ≤ 0x1_0000_0001 → nat_abs z ≤ limit → FitsSigned w64 (pos n *ℤ z)
+repeats-small n z h l = fits_signed_mul w64 (pos n) z 0x1_0000_0001 limit h l (lit< tt)
 
 pub ruleset ends = (to_z-of_z, least-is, greatest-is, within-fits)
 

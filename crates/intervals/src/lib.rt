@@ -1,12 +1,12 @@
 // Intervals, and what each operation makes of its operands' intervals.
 #![tactic(auto)]
 
-ghost use Rattle.std.specs.Prelude.{◌≡◌, ◌*ℤ◌};
+ghost use Rattle.std.specs.Prelude.{◌≡◌, pos, ◌*ℤ◌};
 ghost use Rattle.numbers.specs.Whole as Whole;
 ghost use Rattle.language.specs.Syntax as Syntax;
 ghost use Rattle.language.specs.Meaning as Meaning;
 ghost use Rattle.rules.specs.Bounds as Bounds;
-ghost use Rattle.intervals.specs.Spans.{span, interval_of, as_slot, opposite, repeated, IsNarrowed};
+ghost use Rattle.intervals.specs.Spans.{span, slot_of, interval_of, as_slot, opposite, repeated, Small, Narrow, IsNarrowed};
 
 use std::ops::{Add, Mul, Neg, Sub};
 use table::values_between;
@@ -116,6 +116,43 @@ impl Interval {
 }
 
 impl Ends {
+    // z..z.
+    #[tactic(auto, unfolding(rules::specs::Bounds::only))]
+    pub fn only(z: i64) -> Ends
+        ensures { span result ≡ Bounds.only z }
+    {
+        Ends { low: z, high: z }
+    }
+
+    // The least interval that holds both: from the minimum's lower end to the maximum's upper one.
+    #[tactic(auto, unfolding(rules::specs::Bounds::hull, rules::specs::Bounds::arith_interval))]
+    pub fn hull(self, other: Ends) -> Ends
+        ensures { span result ≡ Bounds.hull (span self) (span other) }
+    {
+        Ends {
+            low: self.min(other).low,
+            high: self.max(other).high,
+        }
+    }
+
+    #[tactic(auto, using(crate::proofs::Spans::ends), unfolding(rules::specs::Bounds::arith_interval))]
+    pub fn min(self, other: Ends) -> Ends
+        ensures { span result ≡ Bounds.arith_interval Syntax.minimum (span self) (span other) }
+    {
+        let low = self.low.min(other.low);
+        let high = self.high.min(other.high);
+        Ends { low, high }
+    }
+
+    #[tactic(auto, using(crate::proofs::Spans::ends), unfolding(rules::specs::Bounds::arith_interval))]
+    pub fn max(self, other: Ends) -> Ends
+        ensures { span result ≡ Bounds.arith_interval Syntax.maximum (span self) (span other) }
+    {
+        let low = self.low.max(other.low);
+        let high = self.high.max(other.high);
+        Ends { low, high }
+    }
+
     // −m..m.
     #[tactic(auto, unfolding(rules::specs::Bounds::around))]
     fn around(m: u32) -> Ends
@@ -124,6 +161,44 @@ impl Ends {
         Ends {
             low: -i64::from(m),
             high: i64::from(m),
+        }
+    }
+
+    // The range of the slot with these ends, x..x where it is empty.
+    #[tactic(auto, using(crate::proofs::Spans::ends), unfolding(rules::specs::Bounds::slot_interval))]
+    pub fn slot_values(self) -> Ends
+        ensures { span result ≡ Bounds.slot_interval (slot_of self) }
+    {
+        let high = self.low.max(self.high);
+        Ends {
+            low: self.low,
+            high,
+        }
+    }
+
+    // The body's ends times the count of the slot with these ends. Where these are of 32 bits and the body's within the limit, the products fit 64.
+    pub fn summed(self, body: Ends) -> Ends
+        requires narrow { Narrow self }
+        requires small { Small body }
+        ensures { span result ≡ repeated (Meaning.count (slot_of self)) (span body) }
+    {
+        let n = self.slot_count();
+        Ends {
+            low: n * body.low,
+            high: n * body.high,
+        }
+    }
+
+    // How many values the slot with these ends has.
+    #[tactic(auto, unfolding(language::specs::Meaning::count))]
+    fn slot_count(self) -> i64
+        requires { Narrow self }
+        ensures { result ≡ pos (Meaning.count (slot_of self)) }
+    {
+        if self.low <= self.high {
+            self.high - self.low + 1
+        } else {
+            0
         }
     }
 
@@ -202,14 +277,11 @@ impl Mul for Interval {
     ghost mul_gives = { λ i j r. span r ≡ Bounds.arith_interval Syntax.times (interval_of i) (interval_of j) };
 
     fn mul(self, other: Interval) -> Ends {
-        let a = product(self.low, other.low);
-        let b = product(self.low, other.high);
-        let c = product(self.high, other.low);
-        let d = product(self.high, other.high);
-        Ends {
-            low: a.min(b).min(c.min(d)),
-            high: a.max(b).max(c.max(d)),
-        }
+        let a = Ends::only(product(self.low, other.low));
+        let b = Ends::only(product(self.low, other.high));
+        let c = Ends::only(product(self.high, other.low));
+        let d = Ends::only(product(self.high, other.high));
+        a.hull(b).hull(c.hull(d))
     }
 }
 
