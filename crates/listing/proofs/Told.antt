@@ -90,6 +90,10 @@ pub translate-within : (choice : ℕ) (table lent : List ℕ) → Within (transl
 unfolding translate translation_done
 translate-within choice table lent = outcome-within _ (translation table (reading_chosen choice)) lent
 
+-- What is written lies within the lent bytes.
+pub answer-within : (choice : ℕ) (table lent : List ℕ) {a : Answer} {new : List ℕ} → record { answer = a; lent = new } ≡ translate choice table lent → a.length_written ≤ length new
+answer-within choice table lent e = rw (ap (λ (o : Outcome). o.answer.length_written) e, ap (λ (o : Outcome). length o.lent) e) (translate-within choice table lent)
+
 -- ---- what the code is given for 60,000 bytes of 0
 
 module _ (choice : ℕ) (table : List ℕ) {a : Answer} {new : List ℕ} (e : record { answer = a; lent = new } ≡ translate choice table (replicate 60_000 0)) where
@@ -105,7 +109,3 @@ module _ (choice : ℕ) (table : List ℕ) {a : Answer} {new : List ℕ} (e : re
   pub refusal-told : {number at : ℕ} → (number ≡ 0 → ⊥) → number ≡ a.number → at ≡ a.at → refusal_text number at ≡ listing_of choice table
   unfolding text_for
   refusal-told {number} z n k = rw (n, k) (rw (ne_eqb a.number 0 (rw n at z)) at text-told)
-
-  -- What is written lies within the bytes.
-  pub answer-within : a.length_written ≤ length new
-  answer-within = rw (ap (λ (o : Outcome). o.answer.length_written) e, ap (λ (o : Outcome). length o.lent) e) (translate-within choice table (replicate 60_000 0))

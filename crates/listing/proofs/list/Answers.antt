@@ -10,11 +10,11 @@ use Rattle.listing.proofs.list.Goals as goal
 
 pub put_lines-requires-clause-count_bound : goal.put_lines-requires-clause-count_bound
 unfolding answer_of done record_count record_size
-put_lines-requires-clause-count_bound c = let h = answer-within _ _ c.in-Ok.ensures in omega (arith, h)
+put_lines-requires-clause-count_bound c = let h = answer-within _ _ _ c.in-Ok.ensures in omega (arith, h)
 
 pub put_lines-requires-clause-count_in_bounds : goal.put_lines-requires-clause-count_in_bounds
 unfolding answer_of done
-put_lines-requires-clause-count_in_bounds c = let h = answer-within _ _ c.in-Ok.ensures in omega (arith, h, c.translate.auto.out ∙ length-replicate {A = ℕ} 60_000 0)
+put_lines-requires-clause-count_in_bounds c = let h = answer-within _ _ _ c.in-Ok.ensures in omega (arith, h, c.translate.auto.out ∙ length-replicate {A = ℕ} 60_000 0)
 
 pub returns-in-Ok-clause-value : goal.returns-in-Ok-clause-value
 unfolding answer_of done record_size
