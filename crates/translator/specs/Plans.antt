@@ -1,7 +1,7 @@
 -- The rules as rows, and where each kind's rows stand under each reading, as the code holds them. `Compiled` of proofs/ holds them to the
 -- rules themselves.
 -- Internal: a contract behind the public ones; no public promise cites it.
-use Rattle.std.specs.Prelude.{ℕ, List, [], ◌∷◌, get_or, take, drop, Some, None}
+use Rattle.std.specs.Prelude.{ℕ, List, [], ◌∷◌, get_or, map, take, drop, Some, None}
 use Rattle.language.specs.Readings.{Reading, strict, kleene, relational}
 use Rattle.table.specs.declared.kind.Kind.{Kind}
 use Rattle.table.specs.declared.kind.Kind.TheVariants.{Constant, TruthValue, Add, Negate, Min, Max, BoolToInt, Sum, And, Or, Not, Equal, Unequal, AtMost, Exists, Forall}
@@ -151,6 +151,10 @@ under relational r = r.relational
 -- the plan of a kind under a reading
 unfoldable pub plan_at : Reading → ℕ → Plan
 plan_at ρ k = under ρ (get_or rules k no_kind)
+
+-- the plans of a reading by kind
+unfoldable pub rule_plans : Reading → List Plan
+rule_plans ρ = map (under ρ) rules
 
 -- the rows of a plan
 unfoldable pub rows_of : Plan → List Row
