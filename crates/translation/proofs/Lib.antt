@@ -1,3 +1,4 @@
+pub mod Copies
 pub mod Numbers
 pub mod Outcomes
 pub mod Wholes
