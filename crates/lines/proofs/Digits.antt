@@ -1,5 +1,5 @@
 -- A number's decimal digits are those that std writes of it: the last stands behind the others, and there are ten at most, three of a byte.
-use Rattle.std.proofs.Common.{◌≡◌, ℕ, suc, ◌+◌, ◌/◌, ◌%◌, ◌<◌, ◌≤◌, ◌^◌, true, false, [], ◌∷◌, ◌++◌, length, ℤ, pos, negsuc, refl, sym, ap, ◌∙◌, arith, length-append, w64, to_z, of_z, mod-eq_of_lt}
+use Rattle.std.proofs.Common.{◌≡◌, ℕ, suc, ◌+◌, ◌/◌, ◌%◌, ◌<◌, ◌≤◌, ◌^◌, true, false, [], ◌∷◌, ◌++◌, length, ℤ, pos, negsuc, refl, sym, ap, ◌∙◌, arith, length-append, w64, to_z, of_z}
 use borrow.Author.Tests.{lt-ltb, le-ltb}
 use Rattle.std.specs.Prelude.{unsigned_abs}
 use Rattle.std.specs.Fmt as Fmt
@@ -32,8 +32,8 @@ module _ (w : ℕ) (small : w < 2 ^ 32) where
   pub length-byte : w < 256 → length (decimal w) ≤ 3
   length-byte h = rw decimal_is (length-le 3 (omega arith) (omega arith))
 
-  pub decimal_last : w < 10 → decimal w ≡ (48 + w % 10) ∷ []
-  decimal_last h = decimal_is ∙ decimal_digit w h ∙ ap (λ d. (48 + d) ∷ []) (sym (mod-eq_of_lt h))
+  pub decimal_last : w < 10 → decimal w ≡ (48 + w) ∷ []
+  decimal_last h = decimal_is ∙ decimal_digit w h
 
 module _ (w : ℕ) (small : w < 2 ^ 32) where
   pub decimal_more : 10 ≤ w → decimal w ≡ decimal (w / 10) ++ ((48 + w % 10) ∷ [])

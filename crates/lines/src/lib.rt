@@ -3,6 +3,7 @@
 #![tactic(auto)]
 
 ghost use Rattle.std.specs.Prelude.{◌≡◌, ◌++◌, ◌+◌, ◌*◌, ◌^◌, ◌≤◌, ◌<◌, [], length, drop, unsigned_abs};
+ghost use Rattle.std.proofs.lemmas.List.Edits.{sets};
 ghost use Rattle.table.specs.Records.{record_count};
 ghost use Rattle.answers.specs.Listing.{decimal, signed_decimal, space, line_of, lines_of};
 ghost use Rattle.lines.specs.Pieces.{longest_line, longest_refusal, refusal_text};
@@ -13,6 +14,63 @@ use table::RECORD_SIZE;
 // The longest line, in bytes: a mark of two letters, two numbers of at most three digits, two of at most ten and a sign, four spaces and
 // a newline.
 const MOST_LINE: usize = 35;
+
+// Puts a number in decimal from byte `at` on, and gives the place behind it.
+// Kept: digit by digit, since no clause of `write!` excludes an error, and clause `text_after` of `list` holds for every input.
+fn put_decimal(text: &mut [u8], at: usize, w: u64) -> usize
+    requires w_bound { w < 2 ^ 32 }
+    requires in_bounds { at + length (decimal w) ≤ length text.old }
+    ensures value { result ≡ at + length (decimal w) }
+    ensures text_after { text.new ≡ sets text.old at (decimal w) }
+{
+    if w < 10 {
+        text[at] = b'0' + w as u8;
+        at + 1
+    } else {
+        let last = put_decimal(text, at, w / 10);
+        text[last] = b'0' + (w % 10) as u8;
+        last + 1
+    }
+}
+
+// Puts a space and a number from byte `at` on, and gives the place behind them.
+fn put_field(text: &mut [u8], at: usize, x: i64) -> usize
+    requires x_bound { unsigned_abs x < 2 ^ 32 }
+    requires in_bounds { at + length (space ++ signed_decimal x) ≤ length text.old }
+    ensures value { result ≡ at + length (space ++ signed_decimal x) }
+    ensures text_after { text.new ≡ sets text.old at (space ++ signed_decimal x) }
+{
+    text[at] = b' ';
+    let start = if x < 0 {
+        text[at + 1] = b'-';
+        at + 2
+    } else {
+        at + 1
+    };
+    put_decimal(text, start, x.unsigned_abs())
+}
+
+// Puts the line of record `k` from byte `at` on, and gives the place behind it: "each record .. as mark, kind, aux, x, y with single spaces".
+// Kept: each byte stored where it stays. With lines made one by one in a buffer and copied, a listing took up to twice the time.
+#[tactic(auto, unfolding(table::specs::Records::record_size, table::specs::Records::record_count))]
+fn put_line(table: &[u8], k: usize, text: &mut [u8], at: usize) -> usize
+    requires k_bound { k < record_count table.now }
+    requires in_bounds { at + longest_line ≤ length text.old }
+    ensures value { result ≡ at + length (line_of table.now k) }
+    ensures text_after { text.new ≡ sets text.old at (line_of table.now k) }
+    ensures upper_bound { result ≤ at + longest_line }
+{
+    let from = RECORD_SIZE * k;
+    let record = table::record_at(table, k);
+    text[at] = table[from];
+    text[at + 1] = table[from + 1];
+    let kind_end = put_field(text, at + 2, i64::from(record.kind));
+    let aux_end = put_field(text, kind_end, i64::from(record.aux));
+    let x_end = put_field(text, aux_end, i64::from(record.x));
+    let y_end = put_field(text, x_end, i64::from(record.y));
+    text[y_end] = b'\n';
+    y_end + 1
+}
 
 // A line as far as it is written.
 // Kept: a buffer with its length beside it, since nothing here allocates; a clause sees the bytes that are written.
@@ -43,21 +101,13 @@ impl Line {
         }
     }
 
-    // "each record .. as mark, kind, aux, x, y with single spaces"
-    #[tactic(auto, unfolding(table::specs::Records::record_size, table::specs::Records::record_count))]
+    // The line of record `k`.
     pub fn of_record(table: &[u8], k: usize) -> Self
         requires { k < record_count table.now }
         ensures { result ≡ line_of table.now k }
     {
-        let at = RECORD_SIZE * k;
-        let record = table::record_at(table, k);
         let mut line = Line::new();
-        line.push(&table[at..at + 2]);
-        line.push_field(i64::from(record.kind));
-        line.push_field(i64::from(record.aux));
-        line.push_field(i64::from(record.x));
-        line.push_field(i64::from(record.y));
-        line.push(b"\n");
+        line.len = put_line(table, k, &mut line.bytes, 0);
         line
     }
 
@@ -90,27 +140,13 @@ impl Line {
         self.len = end;
     }
 
-    // A number in decimal.
-    // Kept: digit by digit, since no clause of `write!` excludes an error, and clause `text_after` of `list` holds for every input.
-    fn push_decimal(&mut self, w: u64)
-        requires w_bound { w < 2 ^ 32 }
-        requires in_bounds { length self.old + length (decimal w) ≤ longest_line }
-        ensures { self.new ≡ self.old ++ decimal w }
-    {
-        if w >= 10 {
-            self.push_decimal(w / 10);
-        }
-        self.push(&[b'0' + (w % 10) as u8]);
-    }
-
     // A space and a number.
     fn push_field(&mut self, x: i64)
         requires x_bound { unsigned_abs x < 2 ^ 32 }
         requires in_bounds { length self.old + length (space ++ signed_decimal x) ≤ longest_line }
         ensures { self.new ≡ self.old ++ (space ++ signed_decimal x) }
     {
-        self.push(if x < 0 { b" -" } else { b" " });
-        self.push_decimal(x.unsigned_abs());
+        self.len = put_field(&mut self.bytes, self.len, x);
     }
 }
 
@@ -124,11 +160,7 @@ pub fn put_lines(table: &[u8], count: usize, text: &mut [u8]) -> usize
 {
     let mut at = 0;
     for k in 0..count {
-        let line = Line::of_record(table, k);
-        let line = line.as_bytes();
-        let end = at + line.len();
-        text[at..end].copy_from_slice(line);
-        at = end;
+        at = put_line(table, k, text, at);
     }
     at
 }

@@ -1,7 +1,7 @@
 -- `put_lines`: one line more at each turn.
-use Rattle.std.proofs.Common.{◌≡◌, ℕ, ◌+◌, ◌-◌, List, ◌++◌, length, drop, refl, ◌∙◌, arith, add-one, append_assoc, length-append}
+use Rattle.std.proofs.Common.{◌≡◌, ℕ, ◌+◌, ◌≤◌, List, ◌++◌, length, drop, refl, ◌∙◌, arith, add-one, length-append, length-drop}
 use Rattle.std.proofs.lemmas.List.{take_at, drop_at, drop-drop}
-use borrow.Rule.Slice.PartMut.{put_mid}
+use Rattle.std.proofs.lemmas.List.Edits.{sets, sets-eq}
 use Rattle.answers.specs.Listing.{line_of, lines_of}
 use Rattle.lines.proofs.put_lines.Goals as goal
 
@@ -9,12 +9,12 @@ lines_of-more : (table : List ℕ) (k : ℕ) → lines_of table (k + 1) ≡ line
 unfolding lines_of
 lines_of-more table k = rw add-one
 
--- A line written behind those before it.
-written_more : (front line text : List ℕ) {at : ℕ} → at ≡ length front
-    → put_mid at ((at + length line) - at) (front ++ drop at text) line ≡ (front ++ line) ++ drop (at + length line) text
-written_more front line text {at} e =
-    let k : (at + length line) - at ≡ length line = omega arith in
-    rw (k, take_at front (drop at text) at (omega (arith, e)), drop_at front (drop at text) at (omega (arith, e)), drop-drop (length line) at text, append_assoc)
+-- A line put behind those before it.
+put_more : (front line text : List ℕ) {at : ℕ} → at ≡ length front → at + length line ≤ length text
+    → sets (front ++ drop at text) at line ≡ (front ++ line) ++ drop (at + length line) text
+put_more front line text {at} e h =
+    sets-eq line (front ++ drop at text) at (simp (length-append, length-drop) (omega arith))
+    ∙ rw (take_at front (drop at text) at (omega arith), ← drop-drop (length line) at (front ++ drop at text), drop_at front (drop at text) at (omega arith), drop-drop (length line) at text)
 
 pub loop-k-init : goal.loop-k-init
 unfolding lines_of
@@ -23,8 +23,8 @@ loop-k-init c = (refl, refl, omega arith)
 pub loop-k-preserved : goal.loop-k-preserved
 loop-k-preserved c =
     let l = c.loop-k in
-    let line = c.as_bytes-line.ensures.value ∙ c.of_record-line.ensures in (
-      rw (line, lines_of-more c.args.table.now l.k, length-append) (omega (arith, l.invariant.0)),
-      rw (c.copy_from_slice.ensures.after, l.invariant.1, line, lines_of-more c.args.table.now l.k) (written_more _ _ _ l.invariant.0),
-      omega (arith, l.invariant.2, c.as_bytes-line.ensures.upper_bound),
+    let e = c.put_line-at.ensures in (
+      rw (lines_of-more c.args.table.now l.k, length-append) (omega arith),
+      rw (e.text_after, l.invariant.1, lines_of-more c.args.table.now l.k, e.value) (put_more _ _ _ l.invariant.0 (omega arith)),
+      omega arith,
     )

@@ -1,23 +1,16 @@
--- The space, the sign of a number below zero, and the digits.
-use Rattle.std.proofs.Common.{ap, arith, length, length-append, append_assoc}
-use Rattle.lines.proofs.Digits.{signed_below, signed_above}
+-- `Line::push_field`: the field stands behind what the line has.
+use Rattle.std.proofs.Common.{◌++◌, length, ap, ◌∙◌, arith, length-take-le}
+use mir.Facts.{to_z-of_z}
+use Rattle.answers.specs.Listing.{signed_decimal, space}
+use Rattle.lines.proofs.Placed.{put, taken}
 use Rattle.lines.proofs.Line.push_field.Goals as goal
-use Rattle.lines.proofs.Line.push_field.Goals.{then-x-lt0, else-x-lt0}
-
-pub push-requires : goal.push-requires
-push-requires c = elim c.if-x-lt0.branch [
-  | then-x-lt0 w ↦ rw w.push-is (omega (arith, c.requires.in_bounds, ap length (signed_below c.ranges.x w.if-x-lt0.true)))
-  | else-x-lt0 w ↦ rw w.push-is (omega (arith, c.requires.in_bounds))
-]
-
-pub push_decimal-requires-clause-in_bounds : goal.push_decimal-requires-clause-in_bounds
-push_decimal-requires-clause-in_bounds c = elim c.if-x-lt0.branch [
-  | then-x-lt0 w ↦ rw (c.push.ensures, w.push-is, c.unsigned_abs.ensures.value, length-append) (omega (arith, c.requires.in_bounds, ap length (signed_below c.ranges.x w.if-x-lt0.true)))
-  | else-x-lt0 w ↦ rw (c.push.ensures, w.push-is, c.unsigned_abs.ensures.value, length-append) (omega (arith, c.requires.in_bounds, ap length (signed_above c.ranges.x w.if-x-lt0.false)))
-]
 
 pub returns : goal.returns
-returns c = elim c.if-x-lt0.branch [
-  | then-x-lt0 w ↦ rw (c.push_decimal.ensures, c.push.ensures, w.push-is, c.unsigned_abs.ensures.value, signed_below c.ranges.x w.if-x-lt0.true, append_assoc)
-  | else-x-lt0 w ↦ rw (c.push_decimal.ensures, c.push.ensures, w.push-is, c.unsigned_abs.ensures.value, signed_above c.ranges.x w.if-x-lt0.false, append_assoc)
-]
+returns c =
+    let line = c.self.inside in
+    let read = to_z-of_z c.ranges.x in
+    let value = rw read at c.put_field-self-inside.ensures.value in
+    let text_after = rw read at c.put_field-self-inside.ensures.text_after in
+    let front = length-take-le line.len line.bytes (omega arith) in
+    taken (put (space ++ signed_decimal c.args.x) value text_after) (omega (arith, ap length c.self.view_is))
+    ∙ rw c.self.view_is
