@@ -230,7 +230,7 @@ whole_test() {
     [ "$(tail -n 1 "$made/out")" = "5 passed, 0 failed" ] || wrong "the verdict of rt is not the last line"
     cat "$made/told" "$made/out" >"$made/both"
     [ "$(verdicts "$made/both")" -eq 1 ] || wrong "a line before the last one looks like a verdict"
-    has "$made/told" "test: proving 3 crates and trying 2 edits; .* about 12 minutes on four processors"
+    has "$made/told" "test: proving 3 crates and trying 2 edits; .* 12 to 20 minutes on four processors"
     has "$made/told" "test: trying: from C"
 }
 
@@ -297,7 +297,7 @@ failed_test() {
 
 # The figures and the version that the scripts say stand on the first page too.
 on_the_first_page() {
-    for text in rattle-kit-13f "about 5 minutes" "about 12 minutes on four processors"; do
+    for text in rattle-kit-13f "about 5 minutes" "12 to 20 minutes on four processors"; do
         grep -q "$text" README.md || wrong "README.md does not say: $text"
     done
 }
